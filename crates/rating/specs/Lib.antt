@@ -1,0 +1,4 @@
+pub mod Curves
+pub mod Demands
+pub mod Quotients
+pub mod Sources

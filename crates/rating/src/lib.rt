@@ -1,0 +1,3 @@
+pub mod curve;
+pub mod demand;
+mod quotient;

@@ -1,0 +1,3 @@
+pub mod Validity
+pub mod RowLists
+pub mod Scans

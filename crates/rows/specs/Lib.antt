@@ -1,0 +1,5 @@
+pub mod Faults
+pub mod Rows
+pub mod Tables
+pub mod Drafts
+pub mod Books
