@@ -1,3 +1,5 @@
 pub mod curve;
 pub mod demand;
+pub mod order;
 mod quotient;
+pub mod ranking;
