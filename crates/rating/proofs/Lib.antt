@@ -2,6 +2,8 @@ pub mod Curves
 pub mod Demands
 pub mod Fronts
 pub mod Inserting
+pub mod Phases
 pub mod Quotients
 pub mod Rankings
 pub mod Sums
+pub mod Verdicts

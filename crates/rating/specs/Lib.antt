@@ -1,3 +1,4 @@
+pub mod Bounds
 pub mod Curves
 pub mod Demands
 pub mod Figures
@@ -5,4 +6,5 @@ pub mod Orders
 pub mod Quotients
 pub mod Ranked
 pub mod Rankings
+pub mod Ratings
 pub mod Sources

@@ -1,0 +1,104 @@
+use Prim.Native.Nat.{ℕ, zero, suc, _≤_, _<_, _+_, _*_}
+use lib.ListN.{getD, length, take, set}
+use mathlib.Core.Bool.{Bool, true, false}
+use mathlib.Core.List.{List, [], _∷_, _++_, map}
+use mathlib.Core.Path.{_≡_, refl, sym, ap, subst, _∙_}
+use native.Mathlib.Nat.{add-zero}
+use native.Mathlib.Omega.{arith}
+use borrow.Author.Count.{below-more}
+use Rattle.std.proofs.shelf.Lists.{getD-set-other, getD-set-same, length-map, length-take-le, map-more}
+use Rattle.std.specs.Options.{isSome}
+use Rattle.std.specs.declared.option.Option.{Option}
+use Rattle.std.specs.declared.option.Option.the-variants.{Some, None}
+use Rattle.rows.specs.Drafts.{EachValid}
+use Rattle.rows.specs.Rows.{Valid}
+use Rattle.rows.specs.declared.row.Row.{Row}
+use Rattle.rating.specs.Bounds.{boundOf, ceilingOf, costOf, figureAt, firstNone, memoryAsked, orElse, processorAsked, rowOf, sourceOf, workOf}
+use Rattle.rating.specs.Curves.{leastWithin}
+use Rattle.rating.specs.Demands.{demanded, sourcesOf}
+use Rattle.rating.specs.Quotients.{ceil}
+use Rattle.rating.specs.Rankings.{Permutes, frontOf, sumOver}
+use Rattle.rating.specs.Sources.{Sound, asked}
+use Rattle.rating.specs.declared.demand.Demand.{Demand}
+use Rattle.rating.specs.declared.demand.Source.{Source}
+use Rattle.rating.specs.declared.verdict.Phase.{Phase}
+use Rattle.rating.specs.declared.verdict.Phase.the-variants.{Memory, Processor}
+use Rattle.rating.proofs.Curves.{leastWithin-same}
+use Rattle.rating.proofs.Fronts.{front-at}
+
+-- what row i asks of later rows
+abbrev pub sourceFor : Phase → List Row → (ℕ → ℕ) → ℕ → Source
+sourceFor phase rows late i = sourceOf phase (rowOf rows i) (late i)
+
+abbrev pub sourcesFor : Phase → List Row → (ℕ → ℕ) → List ℕ → List Source
+sourcesFor phase rows late ks = map (sourceFor phase rows late) ks
+
+-- what the sources of some rows ask is the sum of what these rows ask
+asked-memory : (rows : List Row) (late : ℕ → ℕ) (ks : List ℕ) (w : ℕ) → asked (sourcesFor Memory rows late ks) w ≡ sumOver (memoryAsked rows w) ks
+unfolding asked sumOver
+asked-memory rows late [] w = refl
+asked-memory rows late (k ∷ ks) w =
+    let here : ceil (w + 0) (rowOf rows k .period) * rowOf rows k .memory ≡ memoryAsked rows w k = ap (λ v. ceil v (rowOf rows k .period) * rowOf rows k .memory) (add-zero w)
+    in ap (λ x. x + asked (sourcesFor Memory rows late ks) w) here ∙ ap (λ x. memoryAsked rows w k + x) (asked-memory rows late ks w)
+
+asked-processor : (rows : List Row) (late : ℕ → ℕ) (ks : List ℕ) (w : ℕ) → asked (sourcesFor Processor rows late ks) w ≡ sumOver (processorAsked rows late w) ks
+unfolding asked sumOver
+asked-processor rows late [] w = refl
+asked-processor rows late (k ∷ ks) w = ap (λ x. processorAsked rows late w k + x) (asked-processor rows late ks w)
+
+pub work-asked : (phase : Phase) (rows : List Row) (late : ℕ → ℕ) (ks : List ℕ) (k w : ℕ)
+    → costOf phase (rowOf rows k) + asked (sourcesFor phase rows late ks) w ≡ workOf phase rows late ks k w
+work-asked Memory rows late ks k w = ap (λ x. rowOf rows k .memory + x) (asked-memory rows late ks w)
+work-asked Processor rows late ks k w = ap (λ x. rowOf rows k .compute + x) (asked-processor rows late ks w)
+
+-- a valid row's source is one that a demand takes up
+pub source-sound : (phase : Phase) (row : Row) (late : ℕ) → Valid row → Sound (sourceOf phase row late)
+source-sound Memory row late v = record { cheap = omega (arith, v .fits, v .in-time, v .short-period); apart = v .some-period }
+source-sound Processor row late v = record { cheap = omega (arith, v .fits, v .in-time, v .short-period); apart = v .some-period }
+
+-- the first none is at a place before which there is a value everywhere
+pub first-none-at : (bound : ℕ → Option ℕ) (ks : List ℕ) (p : ℕ) → p < length ks → ((q : ℕ) → q < p → isSome (bound (getD ks q 0)) ≡ true)
+    → bound (getD ks p 0) ≡ None → firstNone bound ks ≡ Some (getD ks p 0)
+unfolding firstNone
+first-none-at bound [] p h before here = absurd (omega arith)
+first-none-at bound (k ∷ ks) zero h before here = rw here refl
+first-none-at bound (k ∷ ks) (suc p) h before here = go (bound k) refl (first-none-at bound ks p (omega arith) (λ q g. before (suc q) (omega arith)) here)
+  where
+    go : (o : Option ℕ) → bound k ≡ o → firstNone bound ks ≡ Some (getD ks p 0) → orElse (bound k) k (firstNone bound ks) ≡ Some (getD ks p 0)
+    go None e later = absurd (let z : isSome (bound k) ≡ true = before 0 (omega arith) in let y : false ≡ true = sym (ap isSome e) ∙ z in search arith)
+    go (Some x) e later = rw e later
+
+-- One turn at place p of a ranking, where the rows passed are the demand's sources.
+module _ (phase : Phase) (rows : List Row) (late : ℕ → ℕ) (rs : List ℕ) (r : Permutes (length rows) rs) (p : ℕ) (h : p < length rows) where
+  once : (q s : ℕ) → q < s → s < length rs → getD rs q 0 ≡ getD rs s 0 → ⊥
+  once q s a b = r .once q s a (omega (arith, r .long))
+
+  -- the search answers the bound of the row there
+  pub bound-here : (d : Demand) → d .own ≡ costOf phase (rowOf rows (getD rs p 0)) → sourcesOf d ≡ sourcesFor phase rows late (take p rs)
+      → leastWithin (demanded d .work) (ceilingOf phase (rowOf rows (getD rs p 0)) (late (getD rs p 0))) ≡ boundOf phase rows late (frontOf rs) (getD rs p 0)
+  bound-here d own sources =
+      leastWithin-same (demanded d .work) (workOf phase rows late (frontOf rs (getD rs p 0)) (getD rs p 0)) _
+      (λ w.
+      ap (λ x. x + asked (sourcesOf d) w) own ∙ ap (λ xs. costOf phase (rowOf rows (getD rs p 0)) + asked xs w) sources ∙ work-asked phase rows late (take p rs) (getD rs p 0) w
+      ∙ ap (λ (xs : List ℕ). workOf phase rows late xs (getD rs p 0) w) (sym (front-at rs once p (omega (arith, r .long)))))
+
+  pub sources-more : sourcesFor phase rows late (take p rs) ++ sourceFor phase rows late (getD rs p 0) ∷ [] ≡ sourcesFor phase rows late (take (p + 1) rs)
+  sources-more = sym (map-more (sourceFor phase rows late) rs p 0 (omega (arith, r .long)))
+
+  pub length-sources-for : length (sourcesFor phase rows late (take p rs)) ≡ p
+  length-sources-for = length-map (take p rs) (sourceFor phase rows late) ∙ length-take-le p rs (omega (arith, r .long))
+
+  -- the bounds found stay, and one comes to them
+  pub bounds-more : (found : List ℕ) (w : ℕ) → length found ≡ 32 → length rows ≤ 32
+      → ((q : ℕ) → q < p → boundOf phase rows late (frontOf rs) (getD rs q 0) ≡ Some (figureAt found (getD rs q 0)))
+      → boundOf phase rows late (frontOf rs) (getD rs p 0) ≡ Some w
+      → (q : ℕ) → q < p + 1 → boundOf phase rows late (frontOf rs) (getD rs q 0) ≡ Some (figureAt (set found (getD rs p 0) w) (getD rs q 0))
+  bounds-more found w full few before here =
+      below-more (λ q. boundOf phase rows late (frontOf rs) (getD rs q 0) ≡ Some (figureAt (set found (getD rs p 0) w) (getD rs q 0))) p
+      (λ q g. before q g ∙ ap Some (sym (getD-set-other found (getD rs p 0) (getD rs q 0) w 0 (λ e. r .once q p g h e))))
+      (here ∙ ap Some (sym (getD-set-same found (getD rs p 0) w 0 (omega (arith, r .number p h)))))
+
+  -- the row there has no bound, and is the first without
+  pub none-here : (found : List ℕ) → ((q : ℕ) → q < p → boundOf phase rows late (frontOf rs) (getD rs q 0) ≡ Some (figureAt found (getD rs q 0)))
+      → boundOf phase rows late (frontOf rs) (getD rs p 0) ≡ None → firstNone (boundOf phase rows late (frontOf rs)) rs ≡ Some (getD rs p 0)
+  none-here found before here = first-none-at (boundOf phase rows late (frontOf rs)) rs p (omega (arith, r .long)) (λ q g. ap isSome (before q g)) here

@@ -1,0 +1,82 @@
+use Prim.Native.Nat.{ℕ, zero, suc, _≤_, _<_, _+_, _-_}
+use lib.ListN.{getD, length}
+use mathlib.Core.Bool.{Bool, true, false}
+use mathlib.Core.List.{List, [], _∷_}
+use mathlib.Core.Path.{_≡_, refl, sym, ap, subst, _∙_}
+use native.Mathlib.Omega.{arith}
+use Rattle.std.specs.Options.{isSome, valueOr}
+use Rattle.std.specs.declared.option.Option.{Option}
+use Rattle.std.specs.declared.option.Option.the-variants.{Some, None}
+use Rattle.rows.specs.Drafts.{rowsOf, EachValid}
+use Rattle.rows.specs.declared.row.Row.{Row}
+use Rattle.rating.specs.Bounds.{boundOf, ceilingOf, firstNone, isAccepted, judged, memoryBound, memoryFigure, orElse, processorBound, processorFigure, rowOf, verdictOf}
+use Rattle.rating.specs.Curves.{LeastAt}
+use Rattle.rating.specs.Ranked.{ranked}
+use Rattle.rating.specs.Rankings.{Permutes}
+use Rattle.rating.specs.declared.rating.Analysis.{Analysis}
+use Rattle.rating.specs.declared.verdict.Verdict.{Verdict}
+use Rattle.rating.specs.declared.verdict.Verdict.the-variants.{Accepted, Late}
+use Rattle.rating.proofs.Curves.{leastWithin-some}
+use Rattle.rating.proofs.Rankings.{permutes}
+
+-- where there is a value, it is the value
+pub some-value : (o : Option ℕ) → isSome o ≡ true → o ≡ Some (valueOr o 0)
+some-value None e = absurd (let z : false ≡ true = e in search arith)
+some-value (Some x) e = refl
+
+-- a list without a none has a value at each of its places
+pub none-first : (bound : ℕ → Option ℕ) (ks : List ℕ) → firstNone bound ks ≡ None → (p : ℕ) → p < length ks → isSome (bound (getD ks p 0)) ≡ true
+unfolding firstNone
+none-first bound [] e p h = absurd (omega arith)
+none-first bound (k ∷ ks) e p h = go (bound k) refl e p h (none-first bound ks)
+  where
+    go : (o : Option ℕ) → bound k ≡ o → orElse o k (firstNone bound ks) ≡ None → (p : ℕ) → p < length (k ∷ ks)
+        → (firstNone bound ks ≡ None → (q : ℕ) → q < length ks → isSome (bound (getD ks q 0)) ≡ true) → isSome (bound (getD (k ∷ ks) p 0)) ≡ true
+    go None b f p g later = absurd (let z : _≡_ {A = ℕ} 0 1 = cc in omega arith)
+    go (Some x) b f zero g later = ap isSome b
+    go (Some x) b f (suc p) g later = later f p (omega arith)
+
+-- an accepted verdict leaves no row out
+pub accepted-none : (a b : Option ℕ) → isAccepted (judged a b) ≡ true → (a ≡ None) × (b ≡ None)
+accepted-none None None e = (refl, refl)
+accepted-none None (Some k) e = absurd (let z : false ≡ true = e in search arith)
+accepted-none (Some k) b e = absurd (let z : false ≡ true = e in search arith)
+
+-- what two rankings of an accepted table bound
+pub record Bounded (rows : List Row) (ms ps : List ℕ) (k : ℕ) : Type 0 where
+  pub memory : memoryBound rows ms k ≡ Some (memoryFigure rows ms k)
+  pub processor : processorBound rows ms ps k ≡ Some (processorFigure rows ms ps k)
+
+pub all-bounded : (rows : List Row) (ms ps : List ℕ) → Permutes (length rows) ms → Permutes (length rows) ps → isAccepted (verdictOf rows ms ps) ≡ true
+    → (k : ℕ) → k < length rows → Bounded rows ms ps k
+all-bounded rows ms ps am ap e k h =
+    let nones = accepted-none (firstNone (memoryBound rows ms) ms) (firstNone (processorBound rows ms ps) ps) e
+    in let m = am .each k h
+    in let p = ap .each k h
+    in record {
+      memory =
+          some-value (memoryBound rows ms k)
+              (subst (λ i. isSome (memoryBound rows ms i) ≡ true) (m .1 .1) (none-first (memoryBound rows ms) ms (nones .0) (m .0) (omega (arith, am .long, m .1 .0))));
+      processor =
+          some-value (processorBound rows ms ps k)
+              (subst (λ i. isSome (processorBound rows ms ps i) ≡ true) (p .1 .1)
+              (none-first (processorBound rows ms ps) ps (nones .1) (p .0) (omega (arith, ap .long, p .1 .0))));
+    }
+
+-- the two bounds of a row are together within its deadline
+pub within-deadline : (rows : List Row) (ms ps : List ℕ) (k : ℕ) → Bounded rows ms ps k → memoryFigure rows ms k + processorFigure rows ms ps k ≤ rowOf rows k .deadline
+within-deadline rows ms ps k b =
+    let m = leastWithin-some _ _ _ (b .memory)
+    in let p = leastWithin-some _ _ _ (b .processor)
+    in omega (arith, m .within, p .within)
+
+pub analysis-within : (x : Analysis) → isAccepted (x .verdict) ≡ true → (k : ℕ) → k < length (rowsOf (x .draft))
+    → memoryFigure (rowsOf (x .draft)) (ranked (x .memory)) k + processorFigure (rowsOf (x .draft)) (ranked (x .memory)) (ranked (x .processor)) k
+    ≤ rowOf (rowsOf (x .draft)) k .deadline
+analysis-within x e k h =
+    let rows = rowsOf (x .draft)
+    in within-deadline rows (ranked (x .memory)) (ranked (x .processor)) k
+    (all-bounded rows (ranked (x .memory)) (ranked (x .processor))
+    (subst (λ n. Permutes n (ranked (x .memory))) (x .«memory_rows») (permutes (x .memory)))
+    (subst (λ n. Permutes n (ranked (x .processor))) (x .«processor_rows») (permutes (x .processor)))
+    (subst (λ v. isAccepted v ≡ true) (x .rated) e) k h)
