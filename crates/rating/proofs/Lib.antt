@@ -1,9 +1,11 @@
 pub mod Curves
 pub mod Demands
+pub mod Exact
 pub mod Fronts
 pub mod Inserting
 pub mod Phases
 pub mod Quotients
 pub mod Rankings
+pub mod Rated
 pub mod Sums
 pub mod Verdicts

@@ -56,11 +56,11 @@ all-bounded rows ms ps am ap e k h =
     in record {
       memory =
           some-value (memoryBound rows ms k)
-              (subst (λ i. isSome (memoryBound rows ms i) ≡ true) (m .1 .1) (none-first (memoryBound rows ms) ms (nones .0) (m .0) (omega (arith, am .long, m .1 .0))));
+          (subst (λ i. isSome (memoryBound rows ms i) ≡ true) (m .1 .1) (none-first (memoryBound rows ms) ms (nones .0) (m .0) (omega (arith, am .long, m .1 .0))));
       processor =
           some-value (processorBound rows ms ps k)
-              (subst (λ i. isSome (processorBound rows ms ps i) ≡ true) (p .1 .1)
-              (none-first (processorBound rows ms ps) ps (nones .1) (p .0) (omega (arith, ap .long, p .1 .0))));
+          (subst (λ i. isSome (processorBound rows ms ps i) ≡ true) (p .1 .1)
+          (none-first (processorBound rows ms ps) ps (nones .1) (p .0) (omega (arith, ap .long, p .1 .0))));
     }
 
 -- the two bounds of a row are together within its deadline

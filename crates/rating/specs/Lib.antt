@@ -1,4 +1,5 @@
 pub mod Bounds
+pub mod Closing
 pub mod Curves
 pub mod Demands
 pub mod Figures

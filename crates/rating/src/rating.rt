@@ -9,10 +9,10 @@ use crate::ranking::Ranking;
 use crate::verdict::Verdict;
 use rows::draft::Draft;
 
-
+mod closing;
 mod readings;
 
-
+pub use closing::close;
 
 // A draft with what its analysis found: the rows in each phase's order, the verdict that the two rankings give and, if
 // it is accepted, the bounds of every row.

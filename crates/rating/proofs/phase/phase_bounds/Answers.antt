@@ -53,7 +53,7 @@ add-requires c κs =
           );
       sound =
           subst Sound (sym (c .source .ensures))
-              (source-sound (c .args .phase) _ (figureAt (c .args .late .now) (getD (c .rows-order .result .now) (c .loop-k .k-index) 0)) (c .pre .valid _ k));
+          (source-sound (c .args .phase) _ (figureAt (c .args .late .now) (getD (c .rows-order .result .now) (c .loop-k .k-index) 0)) (c .pre .valid _ k));
     }
 
 pub loop-k-again : need.loop-k-again
@@ -73,9 +73,9 @@ loop-k-again c =
     in (
       length-set (c .loop-k .found) (getD (c .rows-order .result .now) (c .loop-k .k-index) 0) (c .in-Some .w) ∙ c .loop-k .inv .0,
       c .add .ensures .sources ∙ ap (λ xs. xs ++ c .source .result ∷ []) sources
-      ∙ ap (λ s. sourcesFor (c .args .phase) (c .args .rows .now) late (take p rs) ++ s ∷ [])
-      (c .source .ensures ∙ ap (sourceFor (c .args .phase) (c .args .rows .now) late) at)
-      ∙ sources-more (c .args .phase) (c .args .rows .now) late rs r p h,
+          ∙ ap (λ s. sourcesFor (c .args .phase) (c .args .rows .now) late (take p rs) ++ s ∷ [])
+          (c .source .ensures ∙ ap (sourceFor (c .args .phase) (c .args .rows .now) late) at)
+          ∙ sources-more (c .args .phase) (c .args .rows .now) late rs r p h,
       (λ q g.
           bounds-more (c .args .phase) (c .args .rows .now) late rs r p h (c .loop-k .found) (c .in-Some .w) (c .loop-k .inv .0) (c .pre .few) (c .loop-k .inv .2) here q g
           ∙ ap (λ k. Some (figureAt (set (c .loop-k .found) k (c .in-Some .w)) (getD rs q 0))) (sym at)),
