@@ -19,55 +19,11 @@ use Rattle.rating.specs.declared.verdict.Phase.{Phase}
 use Rattle.rating.specs.declared.verdict.Phase.the-variants.{Memory, Processor}
 use Rattle.rating.specs.declared.verdict.Verdict.{Verdict}
 use Rattle.rating.specs.declared.verdict.Verdict.the-variants.{Accepted, Late}
+use Rattle.rating.proofs.Below.{Below, below-before, below-front, below-permutes, sum-same}
 use Rattle.rating.proofs.Curves.{found-least, least-found, leastWithin-none, leastWithin-same, leastWithin-some}
+use Rattle.rating.proofs.Firsts.{all-some, first-at, none-first, some-value}
 use Rattle.rating.proofs.Fronts.{place-before, sum-front}
-use Rattle.rating.proofs.Verdicts.{Bounded, all-bounded, none-first, some-value, within-deadline}
-
--- Lists of numbers below n.
-unfoldable pub Below : ℕ → List ℕ → Type 0
-Below n [] = Unit {0}
-Below n (x ∷ xs) = (x < n) × Below n xs
-
-below-append : (n : ℕ) (xs ys : List ℕ) → Below n xs → Below n ys → Below n (xs ++ ys)
-unfolding Below
-below-append n [] ys a b = b
-below-append n (x ∷ xs) ys a b = (a .0, below-append n xs ys (a .1) b)
-
-below-more : (n m : ℕ) (xs : List ℕ) → n ≤ m → Below n xs → Below m xs
-unfolding Below
-below-more n m [] h a = tt
-below-more n m (x ∷ xs) h a = (omega (arith, a .0), below-more n m xs h (a .1))
-
-below-upTo : (n : ℕ) → Below n (upTo n)
-unfolding Below upTo
-below-upTo zero = tt
-below-upTo (suc n) = below-append (suc n) (upTo n) (n ∷ []) (below-more n (suc n) (upTo n) (omega arith) (below-upTo n)) (omega arith, tt)
-
-below-keep : (n : ℕ) (t : ℕ → Bool) (xs : List ℕ) → Below n xs → Below n (keep t xs)
-unfolding Below keep
-below-keep n t [] a = tt
-below-keep n t (x ∷ xs) a = cond-both (t x) (x ∷ keep t xs) (keep t xs) (Below n) (λ _. (a .0, below-keep n t xs (a .1))) (λ _. below-keep n t xs (a .1))
-
-pub below-before : (b : Before) (rows : List Row) (k : ℕ) → Below (length rows) (rowsBefore b rows k)
-below-before b rows k = below-keep (length rows) (λ i. comes b rows i k) (upTo (length rows)) (below-upTo (length rows))
-
-below-front : (n : ℕ) (rs : List ℕ) (k : ℕ) → Below n rs → Below n (frontOf rs k)
-unfolding Below frontOf
-below-front n [] k a = tt
-below-front n (x ∷ xs) k a = cond-both _ [] (x ∷ frontOf xs k) (Below n) (λ _. tt) (λ _. (a .0, below-front n xs k (a .1)))
-
-below-places : (n : ℕ) (rs : List ℕ) → ((p : ℕ) → p < length rs → getD rs p 0 < n) → Below n rs
-unfolding Below
-below-places n [] h = tt
-below-places n (x ∷ xs) h = (h 0 (omega arith), below-places n xs (λ p g. h (suc p) (omega arith)))
-
-pub below-permutes : (n : ℕ) (rs : List ℕ) → Permutes n rs → Below n rs
-below-permutes n rs r = below-places n rs (λ p h. r .number p (omega (arith, r .long)))
-
-sum-same : (n : ℕ) (f g : ℕ → ℕ) (xs : List ℕ) → Below n xs → ((i : ℕ) → i < n → f i ≡ g i) → sumOver f xs ≡ sumOver g xs
-unfolding Below sumOver
-sum-same n f g [] a h = refl
-sum-same n f g (x ∷ xs) a h = omega (arith, h x (a .0), sum-same n f g xs (a .1) h)
+use Rattle.rating.proofs.Verdicts.{all-bounded, within-deadline}
 
 -- A curve depends on how late the rows of its front are, and on no other row.
 work-late : (phase : Phase) (rows : List Row) (d e : ℕ → ℕ) (front : List ℕ) (k w n : ℕ) → Below n front → ((i : ℕ) → i < n → d i ≡ e i)
@@ -82,45 +38,6 @@ pub bound-late : (phase : Phase) (rows : List Row) (d e : ℕ → ℕ) (front : 
 bound-late phase rows d e front k n within a h =
     leastWithin-same (workOf phase rows d (front k) k) (workOf phase rows e (front k) k) (ceilingOf phase (rowOf rows k) (d k)) (λ w. work-late phase rows d e (front k) k w n a h)
     ∙ ap (λ x. leastWithin (workOf phase rows e (front k) k) (ceilingOf phase (rowOf rows k) x)) (h k within)
-
--- The first number without a value.
-pub all-some : (bound : ℕ → Option ℕ) (ks : List ℕ) → ((p : ℕ) → p < length ks → isSome (bound (getD ks p 0)) ≡ true) → firstNone bound ks ≡ None
-unfolding firstNone
-all-some bound [] h = refl
-all-some bound (k ∷ ks) h = go (bound k) refl (all-some bound ks (λ p g. h (suc p) (omega arith)))
-  where
-    go : (o : Option ℕ) → bound k ≡ o → firstNone bound ks ≡ None → orElse o k (firstNone bound ks) ≡ None
-    go None e later = absurd (let z : false ≡ true = sym (ap isSome e) ∙ h 0 (omega arith) in search arith)
-    go (Some x) e later = later
-
-pub first-same : (n : ℕ) (f g : ℕ → Option ℕ) (ks : List ℕ) → Below n ks → ((k : ℕ) → k < n → f k ≡ g k) → firstNone f ks ≡ firstNone g ks
-unfolding Below firstNone
-first-same n f g [] a h = refl
-first-same n f g (k ∷ ks) a h = ap (λ o. orElse o k (firstNone f ks)) (h k (a .0)) ∙ ap (λ o. orElse (g k) k o) (first-same n f g ks (a .1) h)
-
-record FirstAt (bound : ℕ → Option ℕ) (ks : List ℕ) (k : ℕ) : Type 0 where
-  place : ℕ
-  within : place < length ks
-  here : getD ks place 0 ≡ k
-  none : bound k ≡ None
-  before : (q : ℕ) → q < place → isSome (bound (getD ks q 0)) ≡ true
-
-first-at : (bound : ℕ → Option ℕ) (ks : List ℕ) (k : ℕ) → firstNone bound ks ≡ Some k → FirstAt bound ks k
-unfolding firstNone
-first-at bound [] k e = absurd (let z : _≡_ {A = ℕ} 0 1 = cc in omega arith)
-first-at bound (x ∷ xs) k e = go (bound x) refl e (first-at bound xs k)
-  where
-    go : (o : Option ℕ) → bound x ≡ o → orElse o x (firstNone bound xs) ≡ Some k → (firstNone bound xs ≡ Some k → FirstAt bound xs k) → FirstAt bound (x ∷ xs) k
-    go None b f later =
-        let same : x ≡ k = cc
-        in record { place = 0; within = omega arith; here = same; none = subst (λ i. bound i ≡ None) same b; before = λ q h. absurd (omega arith) }
-    go (Some y) b f later =
-        let r = later f
-        in record { place = suc (r .place); within = omega (arith, r .within); here = r .here; none = r .none; before = pass (r .place) (r .before) }
-      where
-        pass : (p : ℕ) → ((q : ℕ) → q < p → isSome (bound (getD xs q 0)) ≡ true) → (q : ℕ) → q < suc p → isSome (bound (getD (x ∷ xs) q 0)) ≡ true
-        pass p h zero l = ap isSome b
-        pass p h (suc q) l = h q (omega arith)
 
 no-none : (rows : List Row) (rs : List ℕ) → Permutes (length rows) rs → (bound : ℕ → Option ℕ) (b : ℕ → ℕ) → ((k : ℕ) → k < length rows → bound k ≡ Some (b k))
     → firstNone bound rs ≡ None

@@ -1,6 +1,8 @@
+pub mod Below
 pub mod Curves
 pub mod Demands
 pub mod Exact
+pub mod Firsts
 pub mod Fronts
 pub mod Inserting
 pub mod Phases

@@ -21,10 +21,14 @@ use Rattle.rating.specs.Rankings.{Permutes, frontOf, sumOver}
 use Rattle.rating.specs.Sources.{Sound, asked}
 use Rattle.rating.specs.declared.demand.Demand.{Demand}
 use Rattle.rating.specs.declared.demand.Source.{Source}
+use Rattle.rating.specs.Ranked.{ranked}
+use Rattle.rating.specs.declared.ranking.Ranking.{Ranking}
 use Rattle.rating.specs.declared.verdict.Phase.{Phase}
 use Rattle.rating.specs.declared.verdict.Phase.the-variants.{Memory, Processor}
 use Rattle.rating.proofs.Curves.{leastWithin-same}
+use Rattle.rating.proofs.Firsts.{first-none-at}
 use Rattle.rating.proofs.Fronts.{front-at}
+use Rattle.rating.proofs.Rankings.{permutes}
 
 -- what row i asks of later rows
 abbrev pub sourceFor : Phase → List Row → (ℕ → ℕ) → ℕ → Source
@@ -56,49 +60,61 @@ pub source-sound : (phase : Phase) (row : Row) (late : ℕ) → Valid row → So
 source-sound Memory row late v = record { cheap = omega (arith, v .fits, v .in-time, v .short-period); apart = v .some-period }
 source-sound Processor row late v = record { cheap = omega (arith, v .fits, v .in-time, v .short-period); apart = v .some-period }
 
--- the first none is at a place before which there is a value everywhere
-pub first-none-at : (bound : ℕ → Option ℕ) (ks : List ℕ) (p : ℕ) → p < length ks → ((q : ℕ) → q < p → isSome (bound (getD ks q 0)) ≡ true)
-    → bound (getD ks p 0) ≡ None → firstNone bound ks ≡ Some (getD ks p 0)
-unfolding firstNone
-first-none-at bound [] p h before here = absurd (omega arith)
-first-none-at bound (k ∷ ks) zero h before here = rw here refl
-first-none-at bound (k ∷ ks) (suc p) h before here = go (bound k) refl (first-none-at bound ks p (omega arith) (λ q g. before (suc q) (omega arith)) here)
-  where
-    go : (o : Option ℕ) → bound k ≡ o → firstNone bound ks ≡ Some (getD ks p 0) → orElse (bound k) k (firstNone bound ks) ≡ Some (getD ks p 0)
-    go None e later = absurd (let z : isSome (bound k) ≡ true = before 0 (omega arith) in let y : false ≡ true = sym (ap isSome e) ∙ z in search arith)
-    go (Some x) e later = rw e later
+-- a turn of a loop over a ranking's numbers os: the place, the number there and the row that it names
+pub record Turn (rows : List Row) (rs os : List ℕ) (p : ℕ) : Type 0 where
+  pub permutes : Permutes (length rows) rs
+  pub place : p < length rows
+  pub here : getD os p 0 ≡ getD rs p 0
+  pub within : getD os p 0 < length rows
 
--- One turn at place p of a ranking, where the rows passed are the demand's sources.
-module _ (phase : Phase) (rows : List Row) (late : ℕ → ℕ) (rs : List ℕ) (r : Permutes (length rows) rs) (p : ℕ) (h : p < length rows) where
+pub turn : (rows : List Row) (r : Ranking) (os : List ℕ) (p : ℕ) → os ≡ ranked r → r .count ≡ length rows → p < length os → Turn rows (ranked r) os p
+turn rows r os p same count h =
+    let each = subst (λ n. Permutes n (ranked r)) count (permutes r)
+    in let place : p < length rows = omega (arith, ap length same, each .long)
+    in let here = ap (λ xs. getD xs p 0) same
+    in record { permutes = each; place = place; here = here; within = subst (λ k. k < length rows) (sym here) (each .number p place) }
+
+-- One turn, where the rows passed are the demand's sources.
+module _ (phase : Phase) (rows : List Row) (late : ℕ → ℕ) (rs os : List ℕ) (p : ℕ) (t : Turn rows rs os p) where
   once : (q s : ℕ) → q < s → s < length rs → getD rs q 0 ≡ getD rs s 0 → ⊥
-  once q s a b = r .once q s a (omega (arith, r .long))
+  once q s a b = t .permutes .once q s a (omega (arith, t .permutes .long))
+
+  front : frontOf rs (getD os p 0) ≡ take p rs
+  front = ap (frontOf rs) (t .here) ∙ front-at rs once p (omega (arith, t .place, t .permutes .long))
 
   -- the search answers the bound of the row there
-  pub bound-here : (d : Demand) → d .own ≡ costOf phase (rowOf rows (getD rs p 0)) → sourcesOf d ≡ sourcesFor phase rows late (take p rs)
-      → leastWithin (demanded d .work) (ceilingOf phase (rowOf rows (getD rs p 0)) (late (getD rs p 0))) ≡ boundOf phase rows late (frontOf rs) (getD rs p 0)
+  pub bound-here : (d : Demand) → d .own ≡ costOf phase (rowOf rows (getD os p 0)) → sourcesOf d ≡ sourcesFor phase rows late (take p rs)
+      → leastWithin (demanded d .work) (ceilingOf phase (rowOf rows (getD os p 0)) (late (getD os p 0))) ≡ boundOf phase rows late (frontOf rs) (getD os p 0)
   bound-here d own sources =
-      leastWithin-same (demanded d .work) (workOf phase rows late (frontOf rs (getD rs p 0)) (getD rs p 0)) _
+      leastWithin-same (demanded d .work) (workOf phase rows late (frontOf rs (getD os p 0)) (getD os p 0)) _
       (λ w.
-      ap (λ x. x + asked (sourcesOf d) w) own ∙ ap (λ xs. costOf phase (rowOf rows (getD rs p 0)) + asked xs w) sources ∙ work-asked phase rows late (take p rs) (getD rs p 0) w
-      ∙ ap (λ (xs : List ℕ). workOf phase rows late xs (getD rs p 0) w) (sym (front-at rs once p (omega (arith, r .long)))))
+      ap (λ x. x + asked (sourcesOf d) w) own ∙ ap (λ xs. costOf phase (rowOf rows (getD os p 0)) + asked xs w) sources ∙ work-asked phase rows late (take p rs) (getD os p 0) w
+      ∙ ap (λ (xs : List ℕ). workOf phase rows late xs (getD os p 0) w) (sym front))
 
-  pub sources-more : sourcesFor phase rows late (take p rs) ++ sourceFor phase rows late (getD rs p 0) ∷ [] ≡ sourcesFor phase rows late (take (p + 1) rs)
-  sources-more = sym (map-more (sourceFor phase rows late) rs p 0 (omega (arith, r .long)))
+  pub sources-more : sourcesFor phase rows late (take p rs) ++ sourceFor phase rows late (getD os p 0) ∷ [] ≡ sourcesFor phase rows late (take (p + 1) rs)
+  sources-more =
+      ap (λ k. sourcesFor phase rows late (take p rs) ++ sourceFor phase rows late k ∷ []) (t .here)
+      ∙ sym (map-more (sourceFor phase rows late) rs p 0 (omega (arith, t .place, t .permutes .long)))
 
   pub length-sources-for : length (sourcesFor phase rows late (take p rs)) ≡ p
-  length-sources-for = length-map (take p rs) (sourceFor phase rows late) ∙ length-take-le p rs (omega (arith, r .long))
+  length-sources-for = length-map (take p rs) (sourceFor phase rows late) ∙ length-take-le p rs (omega (arith, t .place, t .permutes .long))
 
   -- the bounds found stay, and one comes to them
   pub bounds-more : (found : List ℕ) (w : ℕ) → length found ≡ 32 → length rows ≤ 32
       → ((q : ℕ) → q < p → boundOf phase rows late (frontOf rs) (getD rs q 0) ≡ Some (figureAt found (getD rs q 0)))
-      → boundOf phase rows late (frontOf rs) (getD rs p 0) ≡ Some w
-      → (q : ℕ) → q < p + 1 → boundOf phase rows late (frontOf rs) (getD rs q 0) ≡ Some (figureAt (set found (getD rs p 0) w) (getD rs q 0))
+      → boundOf phase rows late (frontOf rs) (getD os p 0) ≡ Some w
+      → (q : ℕ) → q < p + 1 → boundOf phase rows late (frontOf rs) (getD rs q 0) ≡ Some (figureAt (set found (getD os p 0) w) (getD rs q 0))
   bounds-more found w full few before here =
-      below-more (λ q. boundOf phase rows late (frontOf rs) (getD rs q 0) ≡ Some (figureAt (set found (getD rs p 0) w) (getD rs q 0))) p
-      (λ q g. before q g ∙ ap Some (sym (getD-set-other found (getD rs p 0) (getD rs q 0) w 0 (λ e. r .once q p g h e))))
-      (here ∙ ap Some (sym (getD-set-same found (getD rs p 0) w 0 (omega (arith, r .number p h)))))
+      below-more (λ q. boundOf phase rows late (frontOf rs) (getD rs q 0) ≡ Some (figureAt (set found (getD os p 0) w) (getD rs q 0))) p
+      (λ q g.
+      before q g ∙ ap Some (sym (getD-set-other found (getD os p 0) (getD rs q 0) w 0 (λ e. t .permutes .once q p g (t .place) (e ∙ t .here)))))
+      (subst (λ k. boundOf phase rows late (frontOf rs) k ≡ Some (figureAt (set found (getD os p 0) w) k)) (t .here)
+      (here ∙ ap Some (sym (getD-set-same found (getD os p 0) w 0 (omega (arith, t .within))))))
 
   -- the row there has no bound, and is the first without
   pub none-here : (found : List ℕ) → ((q : ℕ) → q < p → boundOf phase rows late (frontOf rs) (getD rs q 0) ≡ Some (figureAt found (getD rs q 0)))
-      → boundOf phase rows late (frontOf rs) (getD rs p 0) ≡ None → firstNone (boundOf phase rows late (frontOf rs)) rs ≡ Some (getD rs p 0)
-  none-here found before here = first-none-at (boundOf phase rows late (frontOf rs)) rs p (omega (arith, r .long)) (λ q g. ap isSome (before q g)) here
+      → boundOf phase rows late (frontOf rs) (getD os p 0) ≡ None → firstNone (boundOf phase rows late (frontOf rs)) rs ≡ Some (getD os p 0)
+  none-here found before here =
+      first-none-at (boundOf phase rows late (frontOf rs)) rs p (omega (arith, t .place, t .permutes .long)) (λ q g. ap isSome (before q g))
+      (subst (λ k. boundOf phase rows late (frontOf rs) k ≡ None) (t .here) here)
+      ∙ ap Some (sym (t .here))

@@ -17,24 +17,8 @@ use Rattle.rating.specs.declared.rating.Analysis.{Analysis}
 use Rattle.rating.specs.declared.verdict.Verdict.{Verdict}
 use Rattle.rating.specs.declared.verdict.Verdict.the-variants.{Accepted, Late}
 use Rattle.rating.proofs.Curves.{leastWithin-some}
+use Rattle.rating.proofs.Firsts.{none-first, some-value}
 use Rattle.rating.proofs.Rankings.{permutes}
-
--- where there is a value, it is the value
-pub some-value : (o : Option ℕ) → isSome o ≡ true → o ≡ Some (valueOr o 0)
-some-value None e = absurd (let z : false ≡ true = e in search arith)
-some-value (Some x) e = refl
-
--- a list without a none has a value at each of its places
-pub none-first : (bound : ℕ → Option ℕ) (ks : List ℕ) → firstNone bound ks ≡ None → (p : ℕ) → p < length ks → isSome (bound (getD ks p 0)) ≡ true
-unfolding firstNone
-none-first bound [] e p h = absurd (omega arith)
-none-first bound (k ∷ ks) e p h = go (bound k) refl e p h (none-first bound ks)
-  where
-    go : (o : Option ℕ) → bound k ≡ o → orElse o k (firstNone bound ks) ≡ None → (p : ℕ) → p < length (k ∷ ks)
-        → (firstNone bound ks ≡ None → (q : ℕ) → q < length ks → isSome (bound (getD ks q 0)) ≡ true) → isSome (bound (getD (k ∷ ks) p 0)) ≡ true
-    go None b f p g later = absurd (let z : _≡_ {A = ℕ} 0 1 = cc in omega arith)
-    go (Some x) b f zero g later = ap isSome b
-    go (Some x) b f (suc p) g later = later f p (omega arith)
 
 -- an accepted verdict leaves no row out
 pub accepted-none : (a b : Option ℕ) → isAccepted (judged a b) ≡ true → (a ≡ None) × (b ≡ None)

@@ -9,7 +9,9 @@ use Rattle.rating.specs.Bounds.{boundOf, figureAt, isAccepted, processorBound}
 use Rattle.rating.specs.Ranked.{ranked}
 use Rattle.rating.specs.Rankings.{Permutes, frontOf}
 use Rattle.rating.specs.declared.verdict.Phase.the-variants.{Memory, Processor}
-use Rattle.rating.proofs.Exact.{accepted-by, below-permutes, first-same, late-at-processor, processor-late}
+use Rattle.rating.proofs.Below.{below-permutes}
+use Rattle.rating.proofs.Exact.{accepted-by, late-at-processor, processor-late}
+use Rattle.rating.proofs.Firsts.{first-same}
 use Rattle.rating.proofs.Rankings.{permutes}
 use Rattle.rating.proofs.rating.closing.find.Needs as need
 
