@@ -1,23 +1,21 @@
-use Prim.Native.Nat.{ℕ, zero, suc, _≤_, _<_, _+_, _-_, _*_}
+use Prim.Native.Nat.{ℕ, _<_, _+_, _*_}
 use lib.ListN.{getD, length}
-use mathlib.Core.Bool.{Bool, true, false, cond}
-use mathlib.Core.List.{List, [], _∷_, _++_}
+use mathlib.Core.Bool.{true}
+use mathlib.Core.List.{List}
 use mathlib.Core.Path.{_≡_, refl, sym, ap, subst, _∙_}
 use native.Mathlib.Omega.{arith}
-use Rattle.std.proofs.shelf.Tests.{cond-both}
 use Rattle.std.specs.Options.{isSome, valueOr}
 use Rattle.std.specs.declared.option.Option.{Option}
 use Rattle.std.specs.declared.option.Option.the-variants.{Some, None}
 use Rattle.rows.specs.declared.row.Row.{Row}
-use Rattle.rating.specs.Bounds.{boundOf, ceilingOf, firstNone, isAccepted, judged, memoryAsked, memoryBound, memoryFigure, memoryWork, never, orElse, processorAsked, processorBound, processorFigure, processorWork, rowOf, verdictOf, workOf}
-use Rattle.rating.specs.Closing.{Accepts, FirstLate, InTime, LateBy, MemoryInTime}
-use Rattle.rating.specs.Curves.{LeastAt, LeastSolution, leastWithin}
-use Rattle.rating.specs.Orders.{Before, Sequence, comes}
+use Rattle.rating.specs.Bounds.{boundOf, ceilingOf, firstNone, isAccepted, judged, memoryAsked, memoryBound, memoryFigure, memoryWork, never, processorAsked, processorBound, processorFigure, processorWork, rowOf, verdictOf, workOf}
+use Rattle.rating.specs.Closing.{Accepts, FirstLate, InTime, LateBy}
+use Rattle.rating.specs.Curves.{leastWithin}
+use Rattle.rating.specs.Orders.{Sequence, comes}
 use Rattle.rating.specs.Quotients.{ceil}
-use Rattle.rating.specs.Rankings.{Agrees, Permutes, frontOf, keep, rowsBefore, sumOver, upTo}
+use Rattle.rating.specs.Rankings.{Agrees, Permutes, frontOf, rowsBefore, sumOver, upTo}
 use Rattle.rating.specs.declared.verdict.Phase.{Phase}
 use Rattle.rating.specs.declared.verdict.Phase.the-variants.{Memory, Processor}
-use Rattle.rating.specs.declared.verdict.Verdict.{Verdict}
 use Rattle.rating.specs.declared.verdict.Verdict.the-variants.{Accepted, Late}
 use Rattle.rating.proofs.Below.{Below, below-before, below-front, below-permutes, sum-same}
 use Rattle.rating.proofs.Curves.{found-least, least-found, leastWithin-none, leastWithin-same, leastWithin-some}

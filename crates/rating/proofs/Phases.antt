@@ -1,6 +1,5 @@
-use Prim.Native.Nat.{ℕ, zero, suc, _≤_, _<_, _+_, _*_}
+use Prim.Native.Nat.{ℕ, _≤_, _<_, _+_, _*_}
 use lib.ListN.{getD, length, take, set}
-use mathlib.Core.Bool.{Bool, true, false}
 use mathlib.Core.List.{List, [], _∷_, _++_, map}
 use mathlib.Core.Path.{_≡_, refl, sym, ap, subst, _∙_}
 use native.Mathlib.Nat.{add-zero}
@@ -8,12 +7,10 @@ use native.Mathlib.Omega.{arith}
 use borrow.Author.Count.{below-more}
 use Rattle.std.proofs.shelf.Lists.{getD-set-other, getD-set-same, length-map, length-take-le, map-more}
 use Rattle.std.specs.Options.{isSome}
-use Rattle.std.specs.declared.option.Option.{Option}
 use Rattle.std.specs.declared.option.Option.the-variants.{Some, None}
-use Rattle.rows.specs.Drafts.{EachValid}
 use Rattle.rows.specs.Rows.{Valid}
 use Rattle.rows.specs.declared.row.Row.{Row}
-use Rattle.rating.specs.Bounds.{boundOf, ceilingOf, costOf, figureAt, firstNone, memoryAsked, orElse, processorAsked, rowOf, sourceOf, workOf}
+use Rattle.rating.specs.Bounds.{boundOf, ceilingOf, costOf, figureAt, firstNone, memoryAsked, processorAsked, rowOf, sourceOf, workOf}
 use Rattle.rating.specs.Curves.{leastWithin}
 use Rattle.rating.specs.Demands.{demanded, sourcesOf}
 use Rattle.rating.specs.Quotients.{ceil}

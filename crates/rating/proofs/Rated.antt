@@ -1,16 +1,14 @@
-use Prim.Native.Nat.{ℕ, _<_}
 use lib.Dec.{ltb}
 use lib.ListN.{length}
-use mathlib.Core.Bool.{Bool, true, cond, _&&_}
+use mathlib.Core.Bool.{true}
 use mathlib.Core.List.{List}
-use mathlib.Core.Path.{_≡_, refl, sym, ap, subst, _∙_}
-use native.Mathlib.Omega.{arith}
+use mathlib.Core.Path.{_≡_, sym, subst}
 use Rattle.std.proofs.shelf.Tests.{and-from, cond-true, lt-ltb}
 use Rattle.std.specs.Orderings.{Decides}
 use Rattle.std.specs.declared.option.Option.the-variants.{Some, None}
 use Rattle.rows.specs.Drafts.{rowsOf}
 use Rattle.rows.specs.declared.row.Row.{Row}
-use Rattle.rating.specs.Bounds.{isAccepted, memoryFigure, processorFigure, verdictOf}
+use Rattle.rating.specs.Bounds.{isAccepted, memoryFigure, processorFigure}
 use Rattle.rating.specs.Closing.{Accepts, BoundsRead, LateBy}
 use Rattle.rating.specs.Orders.{Before, Sequence}
 use Rattle.rating.specs.Ranked.{ranked}

@@ -1,21 +1,18 @@
-use Prim.Native.Nat.{ℕ, zero, suc, _≤_, _<_, _+_, _-_}
-use lib.ListN.{getD, length}
-use mathlib.Core.Bool.{Bool, true, false}
-use mathlib.Core.List.{List, [], _∷_}
-use mathlib.Core.Path.{_≡_, refl, sym, ap, subst, _∙_}
+use Prim.Native.Nat.{ℕ, _≤_, _<_, _+_}
+use lib.ListN.{length}
+use mathlib.Core.Bool.{true, false}
+use mathlib.Core.List.{List}
+use mathlib.Core.Path.{_≡_, refl, ap, subst}
 use native.Mathlib.Omega.{arith}
-use Rattle.std.specs.Options.{isSome, valueOr}
+use Rattle.std.specs.Options.{isSome}
 use Rattle.std.specs.declared.option.Option.{Option}
 use Rattle.std.specs.declared.option.Option.the-variants.{Some, None}
-use Rattle.rows.specs.Drafts.{rowsOf, EachValid}
+use Rattle.rows.specs.Drafts.{rowsOf}
 use Rattle.rows.specs.declared.row.Row.{Row}
-use Rattle.rating.specs.Bounds.{boundOf, ceilingOf, firstNone, isAccepted, judged, memoryBound, memoryFigure, orElse, processorBound, processorFigure, rowOf, verdictOf}
-use Rattle.rating.specs.Curves.{LeastAt}
+use Rattle.rating.specs.Bounds.{firstNone, isAccepted, judged, memoryBound, memoryFigure, processorBound, processorFigure, rowOf, verdictOf}
 use Rattle.rating.specs.Ranked.{ranked}
 use Rattle.rating.specs.Rankings.{Permutes}
 use Rattle.rating.specs.declared.rating.Analysis.{Analysis}
-use Rattle.rating.specs.declared.verdict.Verdict.{Verdict}
-use Rattle.rating.specs.declared.verdict.Verdict.the-variants.{Accepted, Late}
 use Rattle.rating.proofs.Curves.{leastWithin-some}
 use Rattle.rating.proofs.Firsts.{none-first, some-value}
 use Rattle.rating.proofs.Rankings.{permutes}

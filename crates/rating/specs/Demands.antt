@@ -1,4 +1,4 @@
-use Prim.Native.Nat.{ℕ, _≤_, _+_}
+use Prim.Native.Nat.{_+_}
 use lib.ListN.{take}
 use mathlib.Core.List.{List}
 use native.Mathlib.Omega.{arith}

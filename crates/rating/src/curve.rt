@@ -1,4 +1,3 @@
-ghost use Prim.Native.Nat.{ℕ};
 ghost use Rattle.rating.specs.Curves.{Least, Rising, leastWithin};
 ghost use mathlib.Core.Path.{_≡_};
 

@@ -1,4 +1,4 @@
-ghost use Prim.Native.Nat.{ℕ, _<_, _≤_, _^_};
+ghost use Prim.Native.Nat.{_<_, _^_};
 ghost use Rattle.rating.specs.Quotients.{RoundsUp, ceil};
 ghost use mathlib.Core.Path.{_≡_};
 

@@ -1,12 +1,12 @@
-use Prim.Native.Nat.{ℕ, _≤_, _<_, _+_, _-_, min}
-use lib.ListN.{length, getD, set, take, drop, length-take, length-drop, length-append, length-set}
-use mathlib.Core.Bool.{Bool, true, false, cond}
-use mathlib.Core.List.{List, [], _∷_, _++_}
-use mathlib.Core.Path.{_≡_, refl, sym, ap, subst, _∙_}
+use Prim.Native.Nat.{ℕ, _≤_, _<_, _+_, _-_}
+use lib.ListN.{length, getD, set, take, drop, length-drop, length-append, length-set}
+use mathlib.Core.Bool.{true, cond}
+use mathlib.Core.List.{List}
+use mathlib.Core.Path.{_≡_, sym, ap, subst, _∙_}
 use mathlib.Core.Logic.{_⊎_, inl, inr}
 use native.Mathlib.Omega.{arith}
 use Rattle.std.proofs.shelf.Ways.{eqb-tells, leb-tells}
-use Rattle.std.proofs.shelf.Lists.{length-take-le, getD-take, getD-drop, getD-append-left, getD-append-right, take-more-set, same-lists, getD-set-same, getD-set-other, ext-getD}
+use Rattle.std.proofs.shelf.Lists.{length-take-le, getD-take, getD-drop, getD-append-left, getD-append-right, same-lists, getD-set-same, getD-set-other}
 use Rattle.rows.specs.Rows.{Valid, isValid, blank}
 use Rattle.rows.specs.Tables.{GapClosed}
 use Rattle.rows.specs.Drafts.{rowsOf, without, EachValid, gotten, OthersStay}

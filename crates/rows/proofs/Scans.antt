@@ -1,19 +1,17 @@
 use Prim.Native.Nat.{ℕ, zero, suc, _<_, _≤_, _+_, _-_, _*_, _/_, _%_}
-use lib.Dec.{eqb}
 use lib.ListN.{length}
-use mathlib.Core.Bool.{Bool, true, false, cond}
 use mathlib.Core.List.{List, [], _∷_, _++_}
-use mathlib.Core.Logic.{_⊎_, inl, inr}
+use mathlib.Core.Logic.{inl, inr}
 use mathlib.Core.Path.{_≡_, refl, sym, ap, subst, _∙_}
 use native.Mathlib.Omega.{arith}
 use native.Mathlib.Nat.{add-zero}
 use native.Mathlib.Numerals.{add-one}
 use Rattle.std.proofs.shelf.Tests.{cond-true, eq-eqb}
 use Rattle.std.proofs.shelf.Ways.{eqb-tells}
-use Rattle.std.proofs.shelf.Lists.{append-assoc, append-nil}
+use Rattle.std.proofs.shelf.Lists.{append-nil}
 use Rattle.std.specs.declared.result.Result.{Result}
 use Rattle.std.specs.declared.result.Result.the-variants.{Ok, Err}
-use Rattle.rows.specs.Books.{FirstFault, Loads, bookOf, firstRows, goOn, inBook, loadOf, meets, numbered, recordAt, rowAt, scanned}
+use Rattle.rows.specs.Books.{Loads, bookOf, firstRows, goOn, inBook, loadOf, meets, numbered, recordAt, rowAt, scanned}
 use Rattle.rows.specs.declared.fault.BadRecord.{BadRecord}
 use Rattle.rows.specs.declared.fault.BookFault.{BookFault}
 use Rattle.rows.specs.declared.fault.BookFault.the-variants.{Length, Record}

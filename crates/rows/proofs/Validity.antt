@@ -1,6 +1,4 @@
-use Prim.Native.Nat.{ℕ, _≤_, _<_, _+_}
-use lib.Dec.{leb}
-use mathlib.Core.Bool.{Bool, true, false, cond, _&&_}
+use mathlib.Core.Bool.{true}
 use mathlib.Core.Path.{_≡_}
 use native.Mathlib.Omega.{arith}
 use Rattle.std.proofs.shelf.Ways.{tells}

@@ -1,13 +1,12 @@
-use Prim.Native.Nat.{ℕ, _≤_, _<_, _+_}
+use Prim.Native.Nat.{ℕ, _<_, _+_}
 use lib.Dec.{ltb}
-use lib.ListN.{length, getD, set, take, drop}
-use mathlib.Core.Bool.{Bool, true, cond}
-use mathlib.Core.List.{List, [], _∷_, _++_}
+use lib.ListN.{length, getD, take, drop}
+use mathlib.Core.Bool.{cond}
+use mathlib.Core.List.{List, _++_}
 use mathlib.Core.Path.{_≡_}
-use Rattle.std.specs.Results.{isOk}
 use Rattle.std.specs.declared.result.Result.{Result}
 use Rattle.std.specs.declared.result.Result.the-variants.{Ok, Err}
-use Rattle.rows.specs.Rows.{Valid, blank, checked}
+use Rattle.rows.specs.Rows.{Valid, blank}
 use Rattle.rows.specs.declared.draft.Draft.{Draft}
 use Rattle.rows.specs.declared.fault.DraftFault.{DraftFault}
 use Rattle.rows.specs.declared.fault.DraftFault.the-variants.{Full, NoSuchRow}

@@ -1,4 +1,4 @@
-ghost use Prim.Native.Nat.{ℕ, _+_, _-_, _<_, _≤_};
+ghost use Prim.Native.Nat.{_+_, _-_, _<_, _≤_};
 ghost use Rattle.rows.specs.Tables.{GapClosed};
 ghost use Rattle.rows.specs.declared.row.Row.{Row as Line};
 ghost use lib.ListN.{getD, length, set};

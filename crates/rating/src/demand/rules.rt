@@ -1,4 +1,4 @@
-ghost use Prim.Native.Nat.{ℕ, _<_, _≤_};
+ghost use Prim.Native.Nat.{_<_};
 ghost use Rattle.rating.specs.Demands.{demanded, sourcesOf};
 ghost use Rattle.rating.specs.Sources.{Sound};
 ghost use lib.ListN.{length};

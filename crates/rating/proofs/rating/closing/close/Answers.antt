@@ -1,7 +1,4 @@
-use lib.ListN.{length}
-use mathlib.Core.List.{List}
-use mathlib.Core.Path.{_≡_, refl, sym, ap, subst, _∙_}
-use borrow.Author.Needs.{needs}
+use mathlib.Core.Path.{refl, sym, subst}
 use Rattle.rows.specs.Drafts.{rowsOf}
 use Rattle.rating.specs.Ranked.{ranked}
 use Rattle.rating.specs.Rankings.{Agrees}

@@ -1,14 +1,12 @@
-use Prim.Native.Nat.{ℕ, _<_}
 use lib.ListN.{length}
 use mathlib.Core.Bool.{true, false}
-use mathlib.Core.Path.{_≡_, refl, sym, ap, subst, _∙_}
+use mathlib.Core.Path.{_≡_, sym, ap, subst, _∙_}
 use native.Mathlib.Omega.{arith}
-use borrow.Author.Needs.{needs}
 use Rattle.std.specs.Options.{valueOr}
 use Rattle.rating.specs.Bounds.{boundOf, figureAt, isAccepted, processorBound}
 use Rattle.rating.specs.Ranked.{ranked}
 use Rattle.rating.specs.Rankings.{Permutes, frontOf}
-use Rattle.rating.specs.declared.verdict.Phase.the-variants.{Memory, Processor}
+use Rattle.rating.specs.declared.verdict.Phase.the-variants.{Processor}
 use Rattle.rating.proofs.Below.{below-permutes}
 use Rattle.rating.proofs.Exact.{accepted-by, late-at-processor, processor-late}
 use Rattle.rating.proofs.Firsts.{first-same}

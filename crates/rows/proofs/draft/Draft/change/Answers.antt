@@ -1,11 +1,10 @@
 use Prim.Native.Nat.{_<_}
-use mathlib.Core.Path.{_≡_, sym, subst, _∙_}
 use lib.ListN.{length-set}
 use lib.Seq.{take-set-lt}
 use native.Mathlib.Omega.{arith}
 use borrow.Author.Needs.{needs}
-use Rattle.rows.specs.Drafts.{rowsOf, OthersStay}
-use Rattle.rows.proofs.RowLists.{has-row, length-rows, others-stay, valid-written}
+use Rattle.rows.specs.Drafts.{rowsOf}
+use Rattle.rows.proofs.RowLists.{has-row, others-stay, valid-written}
 use Rattle.rows.proofs.draft.Draft.change.Needs as need
 
 pub ghost-self : need.ghost-self

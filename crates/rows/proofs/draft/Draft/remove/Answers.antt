@@ -2,7 +2,7 @@ use Prim.Native.Nat.{_<_}
 use mathlib.Core.Path.{_∙_}
 use native.Mathlib.Omega.{arith}
 use borrow.Author.Needs.{needs}
-use Rattle.rows.proofs.RowLists.{has-row, length-rows, valid-closed, take-closed}
+use Rattle.rows.proofs.RowLists.{has-row, valid-closed, take-closed}
 use Rattle.rows.proofs.draft.Draft.remove.Needs as need
 
 pub ghost-self : need.ghost-self

@@ -1,4 +1,4 @@
-use mathlib.Core.Path.{_≡_, sym, subst, _∙_}
+use mathlib.Core.Path.{sym, subst}
 use Rattle.rows.specs.Rows.{Valid, blank}
 use Rattle.rows.proofs.Validity.{true-valid}
 use Rattle.rows.proofs.RowLists.{gotten-here}

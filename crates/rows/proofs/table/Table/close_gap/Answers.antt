@@ -1,6 +1,4 @@
 use native.Mathlib.Omega.{arith}
-use mathlib.Core.Path.{subst, sym}
-use Rattle.rows.specs.Tables.{GapClosed}
 use Rattle.rows.proofs.RowLists.{closed-more}
 use Rattle.rows.proofs.table.Table.close_gap.Needs as need
 

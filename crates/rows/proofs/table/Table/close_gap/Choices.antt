@@ -1,4 +1,3 @@
-use Prim.Native.Nat.{_≤_}
 use Rattle.rows.specs.Tables.{GapClosed}
 use Rattle.rows.proofs.table.Table.close_gap.Given as given
 
