@@ -8,7 +8,7 @@ use native.Mathlib.Nat.{add-zero}
 use native.Mathlib.Numerals.{add-one}
 use Rattle.std.proofs.shelf.Tests.{cond-true, eq-eqb}
 use Rattle.std.proofs.shelf.Ways.{eqb-tells}
-use Rattle.std.proofs.shelf.Lists.{append-nil}
+use Rattle.std.proofs.shelf.Lists.{append-assoc, append-nil}
 use Rattle.std.specs.declared.result.Result.{Result}
 use Rattle.std.specs.declared.result.Result.the-variants.{Ok, Err}
 use Rattle.rows.specs.Books.{Loads, bookOf, firstRows, goOn, inBook, loadOf, meets, numbered, recordAt, rowAt, scanned}
@@ -36,6 +36,18 @@ firstRows-more bs n = rw (add-one n) refl
 pub firstRows-none : (xs : List Row) (bs : List ℕ) → xs ++ firstRows bs 0 ≡ xs
 unfolding firstRows
 firstRows-none xs bs = append-nil xs
+
+-- a record that is taken in stands behind those before it, and the rest of the book decides
+pub rows-on : (xs ys zs : List Row) (bs : List ℕ) (i : ℕ) → zs ≡ ys ++ rowAt bs (24 * i) ∷ [] → ys ≡ xs ++ firstRows bs i → zs ≡ xs ++ firstRows bs (i + 1)
+rows-on xs ys zs bs i here before =
+    here ∙ ap (λ ws. ws ++ rowAt bs (24 * i) ∷ []) before ∙ append-assoc xs (firstRows bs i) (rowAt bs (24 * i) ∷ []) ∙ ap (λ ws. xs ++ ws) (sym (firstRows-more bs i))
+
+pub scan-on : (m n l : ℕ) (bs : List ℕ) (i : ℕ) → l ≡ n + 1 → i < length bs / 24 → Ok tt ≡ numbered i (recordAt n bs i)
+    → scanned n bs i (length bs / 24 - i) ≡ scanned m bs 0 (length bs / 24) → scanned l bs (i + 1) (length bs / 24 - (i + 1)) ≡ scanned m bs 0 (length bs / 24)
+scan-on m n l bs i long h here left =
+    ap (λ k. scanned k bs (i + 1) (length bs / 24 - (i + 1))) long ∙ ap (λ o. goOn o (scanned (n + 1) bs (i + 1) (length bs / 24 - (i + 1)))) here
+    ∙ sym (scanned-step n bs i (length bs / 24) h)
+    ∙ left
 
 -- a record that is not taken in decides the book
 pub book-ends : (m n : ℕ) (bs : List ℕ) (i : ℕ) (fault : BadRecord) (y : BookFault) → length bs % 24 ≡ 0 → i < length bs / 24

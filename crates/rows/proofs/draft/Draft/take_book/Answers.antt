@@ -1,14 +1,14 @@
-use Prim.Native.Nat.{_+_, _-_, _*_, _/_}
+use Prim.Native.Nat.{_*_, _/_}
 use mathlib.Core.Path.{_≡_, sym, ap, _∙_}
-use mathlib.Core.List.{[], _++_, _∷_}
+use mathlib.Core.List.{_++_}
 use lib.ListN.{length}
 use native.Mathlib.Omega.{arith}
 use Rattle.std.proofs.shelf.Results.{err-from-errBy}
 use borrow.Author.Needs.{needs}
-use Rattle.std.proofs.shelf.Lists.{append-assoc, length-push}
-use Rattle.rows.specs.Books.{firstRows, goOn, rowAt, scanned}
+use Rattle.std.proofs.shelf.Lists.{length-push}
+use Rattle.rows.specs.Books.{firstRows, rowAt}
 use Rattle.rows.specs.Drafts.{rowsOf}
-use Rattle.rows.proofs.Scans.{book-done, book-ends, firstRows-more, firstRows-none, scanned-step}
+use Rattle.rows.proofs.Scans.{book-done, book-ends, firstRows-none, rows-on, scan-on}
 use Rattle.rows.proofs.draft.Draft.take_book.Needs as need
 
 pub loop-number-holds : need.loop-number-holds
@@ -16,19 +16,14 @@ loop-number-holds c = (sym (firstRows-none (rowsOf (c .args .self .now)) (c .arg
 
 pub loop-number-again : need.loop-number-again
 loop-number-again c =
-    let bs = c .args .bytes .now
-    in let i = c .loop-number .number
-    in let n = length (rowsOf (c .loop-number .self))
-    in let records = length bs / 24
-    in let rest = scanned (n + 1) bs (i + 1) (records - (i + 1))
-    in let here = c .in-Continue-take-numbered .ensures tt .rows
-    in let long : length (rowsOf (c .take-numbered .last .self)) ≡ n + 1 = ap length here ∙ length-push (rowsOf (c .loop-number .self)) (rowAt bs (24 * i))
+    let here = c .in-Continue-take-numbered .ensures tt .rows
     in (
-      here ∙ ap (λ xs. xs ++ rowAt bs (24 * i) ∷ []) (c .loop-number .inv .0) ∙ append-assoc (rowsOf (c .args .self .now)) (firstRows bs i) (rowAt bs (24 * i) ∷ [])
-          ∙ ap (λ xs. rowsOf (c .args .self .now) ++ xs) (sym (firstRows-more bs i)),
-      ap (λ m. scanned m bs (i + 1) (records - (i + 1))) long ∙ ap (λ o. goOn o rest) (c .in-Continue-take-numbered .ensures tt .value)
-          ∙ sym (scanned-step n bs i records (c .loop-number-test .taken))
-          ∙ c .loop-number .inv .1,
+      rows-on (rowsOf (c .args .self .now)) (rowsOf (c .loop-number .self)) (rowsOf (c .take-numbered .last .self)) (c .args .bytes .now) (c .loop-number .number) here
+      (c .loop-number .inv .0),
+      scan-on (length (rowsOf (c .args .self .now))) (length (rowsOf (c .loop-number .self))) (length (rowsOf (c .take-numbered .last .self))) (c .args .bytes .now)
+      (c .loop-number .number)
+      (ap length here ∙ length-push (rowsOf (c .loop-number .self)) (rowAt (c .args .bytes .now) (24 * c .loop-number .number)))
+      (c .loop-number-test .taken) (c .in-Continue-take-numbered .ensures tt .value) (c .loop-number .inv .1),
     )
 
 pub returns-in-Break-take-numbered : need.returns-in-Break-take-numbered
