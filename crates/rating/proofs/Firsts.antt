@@ -78,3 +78,13 @@ first-at bound (x ∷ xs) k e = go (bound x) refl e (first-at bound xs k)
         pass : (p : ℕ) → ((q : ℕ) → q < p → isSome (bound (getD xs q 0)) ≡ true) → (q : ℕ) → q < suc p → isSome (bound (getD (x ∷ xs) q 0)) ≡ true
         pass p h zero l = ap isSome b
         pass p h (suc q) l = h q (omega arith)
+
+-- the first number without a value is one of the list, so it is below what bounds the list
+pub first-below : (bound : ℕ → Option ℕ) (ks : List ℕ) (n : ℕ) → ((p : ℕ) → p < length ks → getD ks p 0 < n) → (k : ℕ) → firstNone bound ks ≡ Some k → k < n
+unfolding firstNone
+first-below bound [] n small k e = absurd (let z : _≡_ {A = ℕ} 0 1 = cc in omega arith)
+first-below bound (j ∷ ks) n small k e = go (bound j) e (first-below bound ks n (λ p h. small (suc p) (omega arith)) k)
+  where
+    go : (o : Option ℕ) → orElse o j (firstNone bound ks) ≡ Some k → (firstNone bound ks ≡ Some k → k < n) → k < n
+    go None f later = let same : j ≡ k = cc in omega (arith, small 0 (omega arith))
+    go (Some x) f later = later f

@@ -1,8 +1,8 @@
 use Prim.Native.Nat.{ℕ, _≤_, _<_, _+_}
-use lib.ListN.{length}
+use lib.ListN.{getD, length}
 use mathlib.Core.Bool.{true, false}
 use mathlib.Core.List.{List}
-use mathlib.Core.Path.{_≡_, refl, ap, subst}
+use mathlib.Core.Path.{_≡_, refl, sym, ap, subst}
 use native.Mathlib.Omega.{arith}
 use Rattle.std.specs.Options.{isSome}
 use Rattle.std.specs.declared.option.Option.{Option}
@@ -11,10 +11,11 @@ use Rattle.rows.specs.Drafts.{rowsOf}
 use Rattle.rows.specs.declared.row.Row.{Row}
 use Rattle.rating.specs.Bounds.{firstNone, isAccepted, judged, memoryBound, memoryFigure, processorBound, processorFigure, rowOf, verdictOf}
 use Rattle.rating.specs.Ranked.{ranked}
+use Rattle.rating.specs.Ratings.{LateRow}
 use Rattle.rating.specs.Rankings.{Permutes}
 use Rattle.rating.specs.declared.rating.Analysis.{Analysis}
 use Rattle.rating.proofs.Curves.{leastWithin-some}
-use Rattle.rating.proofs.Firsts.{none-first, some-value}
+use Rattle.rating.proofs.Firsts.{first-below, none-first, some-value}
 use Rattle.rating.proofs.Rankings.{permutes}
 
 -- an accepted verdict leaves no row out
@@ -61,3 +62,21 @@ analysis-within x e k h =
     (subst (λ n. Permutes n (ranked (x .memory))) (x .«memory_rows») (permutes (x .memory)))
     (subst (λ n. Permutes n (ranked (x .processor))) (x .«processor_rows») (permutes (x .processor)))
     (subst (λ v. isAccepted v ≡ true) (x .rated) e) k h)
+
+-- a verdict over numbers of rows names a row
+pub judged-row : (rows : List Row) (a b : Option ℕ) → ((k : ℕ) → a ≡ Some k → k < length rows) → ((k : ℕ) → b ≡ Some k → k < length rows) → LateRow rows (judged a b)
+judged-row rows (Some k) b first second = first k refl
+judged-row rows None (Some k) first second = second k refl
+judged-row rows None None first second = tt
+
+pub late-row : (x : Analysis) → LateRow (rowsOf (x .draft)) (x .verdict)
+late-row x =
+    let rows = rowsOf (x .draft)
+    in let ms = permutes (x .memory)
+    in let ps = permutes (x .processor)
+    in let below : (p : ℕ) → p < length (ranked (x .memory)) → getD (ranked (x .memory)) p 0 < length rows =
+    λ p h. omega (arith, ms .number p (omega (arith, ms .long)), x .«memory_rows»)
+    in let under : (p : ℕ) → p < length (ranked (x .processor)) → getD (ranked (x .processor)) p 0 < length rows =
+    λ p h. omega (arith, ps .number p (omega (arith, ps .long)), x .«processor_rows»)
+    in subst (LateRow rows) (sym (x .rated))
+    (judged-row rows _ _ (first-below _ (ranked (x .memory)) (length rows) below) (first-below _ (ranked (x .processor)) (length rows) under))

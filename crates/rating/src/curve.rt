@@ -1,3 +1,4 @@
+ghost use Prim.Native.Nat.{ℕ, _≤_};
 ghost use Rattle.rating.specs.Curves.{Least, Rising, leastWithin};
 ghost use mathlib.Core.Path.{_≡_};
 
@@ -10,12 +11,21 @@ pub trait Curve {
 }
 
 // The least length, up to the ceiling, in which exactly that much work is asked.
-// The curve never falls, so the work asked in a length at or below a solution is at or below it too.
 pub fn least<C: Curve>(curve: &C, ceiling: u32) -> Option<u32>
     ensures value { λ r. ⌜ r ≡ leastWithin (rising (now (curve .entry)) .work) ceiling ⌝ }
     ensures least { λ r. ⌜ Least (rising (now (curve .entry)) .work) ceiling r ⌝ }
 {
-    let mut w = 0;
+    least_from(curve, 0, ceiling)
+}
+
+// The same for a curve that never asks less than `from`, which spares the search the lengths below.
+// The curve never falls, so the work asked in a length at or below a solution is at or below it too.
+pub(crate) fn least_from<C: Curve>(curve: &C, from: u32, ceiling: u32) -> Option<u32>
+    requires { ⌜ ((v : ℕ) → from ≤ rising (now curve) .work v) ⌝ }
+    ensures value { λ r. ⌜ r ≡ leastWithin (rising (now (curve .entry)) .work) ceiling ⌝ }
+    ensures least { λ r. ⌜ Least (rising (now (curve .entry)) .work) ceiling r ⌝ }
+{
+    let mut w = from;
     loop {
         let asked = curve.ask(w);
         if asked > ceiling as u64 {

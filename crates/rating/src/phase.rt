@@ -4,7 +4,7 @@ ghost use Rattle.rating.specs.Ranked.{ranked};
 ghost use Rattle.rows.specs.Drafts.{EachValid};
 ghost use lib.ListN.{length};
 ghost use mathlib.Core.Path.{_≡_};
-use crate::curve::least;
+use crate::curve::least_from;
 use crate::demand::Demand;
 use crate::demand::Source;
 use crate::demand::rules::DemandCurve;
@@ -31,8 +31,9 @@ pub(crate) fn phase_bounds(
     for k in order {
         let row = rows[*k as usize];
         let delay = late[*k as usize];
-        demand.own_cost(cost(phase, &row));
-        let Some(w) = least(&demand, ceiling(phase, &row, delay)) else {
+        let own = cost(phase, &row);
+        demand.own_cost(own);
+        let Some(w) = least_from(&demand, own, ceiling(phase, &row, delay)) else {
             return Err(*k);
         };
         found[*k as usize] = w;

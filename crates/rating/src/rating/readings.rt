@@ -1,8 +1,9 @@
 ghost use Prim.Native.Nat.{_+_, _≤_};
 ghost use Rattle.rating.specs.Bounds.{rowOf};
-ghost use Rattle.rating.specs.Ratings.{boundsAt, boundsOf, draftIn, rankingIn, verdictIn};
-ghost use Rattle.rows.specs.Drafts.{rowsOf};
+ghost use Rattle.rating.specs.Ratings.{LateRow, boundsAt, boundsOf, draftIn, rankingIn, verdictIn};
+ghost use Rattle.rows.specs.Drafts.{EachValid, rowsOf};
 ghost use Rattle.std.specs.Slices.{found};
+ghost use lib.ListN.{length};
 ghost use mathlib.Core.Path.{_≡_};
 use super::Analysis;
 use super::Rating;
@@ -10,11 +11,13 @@ use crate::ranking::Ranking;
 use crate::verdict::Phase;
 use crate::verdict::Verdict;
 use rows::draft::Draft;
+use rows::row::Row;
 
 impl<A, B> Rating<A, B> {
     // Accepted, or late with the phase and the row.
     pub fn verdict(&self) -> Verdict
-        ensures { λ r. ⌜ r ≡ verdictIn (now (self .entry)) ⌝ }
+        ensures value { λ r. ⌜ r ≡ verdictIn (now (self .entry)) ⌝ }
+        ensures row { λ r. ⌜ LateRow (rowsOf (draftIn (now (self .entry)))) r ⌝ }
     {
         self.analysis.verdict
     }
@@ -27,11 +30,13 @@ impl<A, B> Rating<A, B> {
         self.analysis.bounds(i)
     }
 
-    // The closed draft, to be read.
-    pub fn draft(&self) -> &Draft
-        ensures { λ r. ⌜ now r ≡ draftIn (now (self .entry)) ⌝ }
+    // The rows of the closed draft, by their numbers.
+    pub fn rows(&self) -> &[Row]
+        ensures value { λ r. ⌜ now r ≡ rowsOf (draftIn (now (self .entry))) ⌝ }
+        ensures few { λ r. ⌜ length (now r) ≤ 32 ⌝ }
+        ensures valid { λ r. ⌜ EachValid (now r) ⌝ }
     {
-        &self.analysis.draft
+        self.analysis.draft.rows()
     }
 
     // The rows in the order of a phase.

@@ -53,7 +53,7 @@ loop-k-again c =
     in let t = turn (c .args .rows .now) (c .args .ranking .now) os p (c .rows-order .ensures) (c .pre .ranked) (c .loop-k-test .taken)
     in let late = figureAt (c .args .late .now)
     in let d = c .own-cost .last .self
-    in let own = c .own-cost .ensures .own ∙ c .cost .ensures
+    in let own = c .own-cost .ensures .own ∙ c .cost-own .ensures
     in let sources = c .own-cost .ensures .sources ∙ c .loop-k .inv .1
     in let here = sym (bound-here (c .args .phase) (c .args .rows .now) late rs os p t d own sources) ∙ ap (leastWithin (demanded d .work)) (sym (c .ceiling .ensures))
     ∙ sym (c .in-Some .ensures tt .value)
@@ -72,7 +72,7 @@ returns-in-rest c =
     in let t = turn (c .args .rows .now) (c .args .ranking .now) os p (c .rows-order .ensures) (c .pre .ranked) (c .loop-k-test .taken)
     in let late = figureAt (c .args .late .now)
     in let d = c .own-cost .last .self
-    in let own = c .own-cost .ensures .own ∙ c .cost .ensures
+    in let own = c .own-cost .ensures .own ∙ c .cost-own .ensures
     in let sources = c .own-cost .ensures .sources ∙ c .loop-k .inv .1
     in let here = sym (bound-here (c .args .phase) (c .args .rows .now) late rs os p t d own sources) ∙ ap (leastWithin (demanded d .work)) (sym (c .ceiling .ensures))
     ∙ sym (c .in-rest .ensures tt .value)

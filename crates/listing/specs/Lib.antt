@@ -1,0 +1,5 @@
+pub mod Faults
+pub mod Lines
+pub mod Listings
+pub mod Text
+pub mod Words
