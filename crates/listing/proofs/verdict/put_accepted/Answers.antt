@@ -15,18 +15,18 @@ use mathlib.Core.Path.{_≡_, ap, _∙_}
 use native.Mathlib.Omega.{arith}
 
 pub put-decimal-end-requires : need.put-decimal-end-requires
-put-decimal-end-requires g c κs = let short = length-two (c .count .result) (omega (arith, c .count .ensures .few)) in omega arith
+put-decimal-end-requires g c κs = let short = length-two (length (c .rows .result .now)) (omega (arith, c .rows .ensures .few)) in omega arith
 
 pub put-requires : need.put-requires
-put-requires g c κs = let short = length-two (c .count .result) (omega (arith, c .count .ensures .few)) in omega arith
+put-requires g c κs = let short = length-two (length (c .rows .result .now)) (omega (arith, c .rows .ensures .few)) in omega arith
 
 -- from the last put back to the first
 pub returns : need.returns
 returns g c =
     let r = c .args .rating .now
-    in let n = c .count .result
-    in let count : n ≡ length (rowsOf (draftIn r)) = c .count .ensures .value ∙ ap (λ d. length (rowsOf d)) (c .draft .ensures)
-    in let short = length-two n (omega (arith, c .count .ensures .few))
+    in let n = length (c .rows .result .now)
+    in let count : n ≡ length (rowsOf (draftIn r)) = ap length (c .rows .ensures .value)
+    in let short = length-two n (omega (arith, c .rows .ensures .few))
     in let lines = linesOf r (length (rowsOf (draftIn r)))
     in let e2 = written-on (decimal n) (10 ∷ []) _ _ _ _ _ (omega arith) (c .put-decimal-end .ensures .text) (c .put-decimal-end .ensures .behind) (c .put .ensures .text)
     in let e1 =
