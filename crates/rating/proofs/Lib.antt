@@ -1,3 +1,4 @@
+pub mod Bases
 pub mod Below
 pub mod Curves
 pub mod Demands

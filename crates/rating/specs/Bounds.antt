@@ -1,6 +1,7 @@
 use Prim.Native.Nat.{ℕ, _<_, _+_, _-_, _*_}
+use lib.Dec.{eqb}
 use lib.ListN.{getD, length}
-use mathlib.Core.Bool.{Bool, true, false}
+use mathlib.Core.Bool.{Bool, true, false, cond}
 use mathlib.Core.List.{List, [], _∷_}
 use mathlib.Core.Path.{_≡_}
 use Rattle.std.specs.Options.{valueOr}
@@ -56,6 +57,13 @@ ceilingOf Processor row late = row .deadline - late
 abbrev pub sourceOf : Phase → Row → ℕ → Source
 sourceOf Memory row late = record { cost = row .memory; period = row .period; delay = 0 }
 sourceOf Processor row late = record { cost = row .compute; period = row .period; delay = late }
+
+-- where a search may start that comes after a row with a bound, and that bound as it rises
+abbrev pub startOf : ℕ → ℕ → ℕ
+startOf own base = cond (eqb own 0) 0 (base + own)
+
+abbrev pub raisedTo : ℕ → ℕ → ℕ → ℕ
+raisedTo own base w = cond (eqb own 0) base w
 
 -- the bound of row k in a phase: the least solution of its curve within its ceiling
 abbrev pub boundOf : Phase → List Row → (ℕ → ℕ) → (ℕ → List ℕ) → ℕ → Option ℕ

@@ -18,10 +18,11 @@ pub fn least<C: Curve>(curve: &C, ceiling: u32) -> Option<u32>
     least_from(curve, 0, ceiling)
 }
 
-// The same for a curve that never asks less than `from`, which spares the search the lengths below.
+// The same where no solution is below `from`, and `from` asks for itself at least: the lengths below are spared.
 // The curve never falls, so the work asked in a length at or below a solution is at or below it too.
 pub(crate) fn least_from<C: Curve>(curve: &C, from: u32, ceiling: u32) -> Option<u32>
-    requires { ⌜ ((v : ℕ) → from ≤ rising (now curve) .work v) ⌝ }
+    requires low { ⌜ ((v : ℕ) → rising (now curve) .work v ≡ v → from ≤ v) ⌝ }
+    requires up { ⌜ from ≤ rising (now curve) .work from ⌝ }
     ensures value { λ r. ⌜ r ≡ leastWithin (rising (now (curve .entry)) .work) ceiling ⌝ }
     ensures least { λ r. ⌜ Least (rising (now (curve .entry)) .work) ceiling r ⌝ }
 {

@@ -1,5 +1,5 @@
 ghost use Prim.Native.Nat.{_≤_};
-ghost use Rattle.rating.specs.Bounds.{Found, ceilingOf, costOf, figureAt, sourceOf};
+ghost use Rattle.rating.specs.Bounds.{Found, ceilingOf, costOf, figureAt, raisedTo, sourceOf, startOf};
 ghost use Rattle.rating.specs.Ranked.{ranked};
 ghost use Rattle.rows.specs.Drafts.{EachValid};
 ghost use lib.ListN.{length};
@@ -13,7 +13,8 @@ use crate::verdict::Phase;
 use rows::row::Row;
 
 // The bound of every row in a phase, or the first row in the ranking's order that has none. Going in that order, what
-// the rows passed ask of the later ones gathers in one demand.
+// the rows passed ask of the later ones gathers in one demand. No later bound is below the last one and the row's own
+// cost together, so each search starts there.
 pub(crate) fn phase_bounds(
     phase: Phase,
     rows: &[Row],
@@ -27,16 +28,19 @@ pub(crate) fn phase_bounds(
 {
     let mut demand = Demand::new();
     let mut found = [0; 32];
+    let mut base = 0;
     let order = ranking.rows();
     for k in order {
         let row = rows[*k as usize];
         let delay = late[*k as usize];
         let own = cost(phase, &row);
         demand.own_cost(own);
-        let Some(w) = least_from(&demand, own, ceiling(phase, &row, delay)) else {
+        let from = start(own, base);
+        let Some(w) = least_from(&demand, from, ceiling(phase, &row, delay)) else {
             return Err(*k);
         };
         found[*k as usize] = w;
+        base = raised(own, base, w);
         demand.add(source(phase, &row, delay));
     }
     Ok(found)
@@ -49,6 +53,21 @@ fn cost(phase: Phase, row: &Row) -> u32
         Phase::Memory => row.memory,
         Phase::Processor => row.compute,
     }
+}
+
+// Where the search for a row's bound starts, given the last bound. A row that costs nothing is done at once.
+fn start(own: u32, base: u32) -> u32
+    requires { ⌜ own ≤ 1000000 ⌝ ∗ ⌜ base ≤ 1000000 ⌝ }
+    ensures { λ r. ⌜ r ≡ startOf own base ⌝ }
+{
+    if own == 0 { 0 } else { base + own }
+}
+
+// The last bound, once a row that costs something has the bound w.
+fn raised(own: u32, base: u32, w: u32) -> u32
+    ensures { λ r. ⌜ r ≡ raisedTo own base w ⌝ }
+{
+    if own == 0 { base } else { w }
 }
 
 fn ceiling(phase: Phase, row: &Row, late: u32) -> u32

@@ -11,7 +11,7 @@ use Rattle.std.proofs.shelf.Lists.{length-append}
 use Rattle.std.specs.Written.{decimal}
 use lib.ListN.{length}
 use mathlib.Core.List.{[], _∷_, _++_}
-use mathlib.Core.Path.{_≡_, ap, _∙_}
+use mathlib.Core.Path.{_≡_, ap}
 use native.Mathlib.Omega.{arith}
 
 pub put-decimal-end-requires : need.put-decimal-end-requires

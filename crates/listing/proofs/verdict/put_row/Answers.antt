@@ -7,7 +7,7 @@ use Rattle.rating.specs.Ratings.{draftIn}
 use Rattle.rows.specs.Drafts.{rowsOf}
 use lib.ListN.{length}
 use mathlib.Core.List.{[]}
-use mathlib.Core.Path.{_≡_, sym, ap, _∙_}
+use mathlib.Core.Path.{_≡_, sym, ap}
 use native.Mathlib.Omega.{arith}
 
 pub returns-in-Some : need.returns-in-Some

@@ -19,11 +19,11 @@ loop-number-again c =
     let here = c .in-Continue-take-numbered .ensures tt .rows
     in (
       rows-on (rowsOf (c .args .self .now)) (rowsOf (c .loop-number .self)) (rowsOf (c .take-numbered .last .self)) (c .args .bytes .now) (c .loop-number .number) here
-      (c .loop-number .inv .0),
+          (c .loop-number .inv .0),
       scan-on (length (rowsOf (c .args .self .now))) (length (rowsOf (c .loop-number .self))) (length (rowsOf (c .take-numbered .last .self))) (c .args .bytes .now)
-      (c .loop-number .number)
-      (ap length here ∙ length-push (rowsOf (c .loop-number .self)) (rowAt (c .args .bytes .now) (24 * c .loop-number .number)))
-      (c .loop-number-test .taken) (c .in-Continue-take-numbered .ensures tt .value) (c .loop-number .inv .1),
+          (c .loop-number .number)
+          (ap length here ∙ length-push (rowsOf (c .loop-number .self)) (rowAt (c .args .bytes .now) (24 * c .loop-number .number)))
+          (c .loop-number-test .taken) (c .in-Continue-take-numbered .ensures tt .value) (c .loop-number .inv .1),
     )
 
 pub returns-in-Break-take-numbered : need.returns-in-Break-take-numbered
