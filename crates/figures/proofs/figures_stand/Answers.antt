@@ -1,5 +1,6 @@
+use mathlib.Core.Path.{refl}
 use Rattle.figures.proofs.Tests.{figures-stand}
 use Rattle.figures.proofs.figures_stand.Needs as need
 
 pub returns : need.returns
-returns c = figures-stand
+returns c = record { stand = figures-stand; count = refl }
