@@ -1,4 +1,6 @@
 ghost use Prim.Native.Nat.{_≤_};
+ghost use Rattle.rate.specs.Listed.{Shows};
+ghost use Rattle.rows.specs.Books.{loadOf};
 ghost use Rattle.std.specs.Vec.{made};
 ghost use lib.ListN.{length};
 ghost use mathlib.Core.Path.{_≡_};
@@ -17,6 +19,7 @@ use std::io::Write;
 
 // Lists the rating of a book under the two rank orders, or why the book is turned down.
 fn list_book(book: &[u8], out: &mut [u8]) -> Result<usize, ListingFault>
+    ensures shows { λ r. ⌜ Shows (loadOf 0 (now (book .entry))) (now (book .entry)) (now (out .entry)) (now (out .exit)) r ⌝ }
     ensures most { λ r. ⌜ made r (λ n. n ≤ 1292) ⌝ }
     ensures long { λ _. ⌜ length (now (out .exit)) ≡ length (now (out .entry)) ⌝ }
 {
