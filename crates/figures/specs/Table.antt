@@ -5,6 +5,7 @@ use mathlib.Core.Path.{_≡_}
 use Rattle.std.specs.declared.result.Result.the-variants.{Err}
 use Rattle.rows.specs.Faults.{rowNumber}
 use Rattle.rows.specs.Rows.{checked}
+use Rattle.rows.specs.declared.row.Label.{Label}
 use Rattle.rows.specs.declared.row.Row.{Row}
 use Rattle.rows.specs.declared.fault.RowFault.{RowFault}
 use Rattle.rating.specs.Bounds.{figureAt, memoryWork, processorWork, rowOf}
@@ -16,17 +17,29 @@ use Rattle.rating.specs.declared.verdict.Phase.the-variants.{Processor}
 use Rattle.rating.specs.declared.verdict.Verdict.{Verdict}
 use Rattle.rating.specs.declared.verdict.Verdict.the-variants.{Accepted, Late}
 
--- a row by its figures, with one rank for both phases and the label `TASK`
-abbrev pub task : ℕ → ℕ → ℕ → ℕ → ℕ → Row
-task m c d t rank = record {
+-- a row by its label and figures, with one rank for both phases
+abbrev pub row : Label → ℕ → ℕ → ℕ → ℕ → ℕ → Row
+row label m c d t rank = record {
   memory = m;
   compute = c;
   deadline = d;
   period = t;
   «memory_rank» = rank;
   «processor_rank» = rank;
-  label = record { first = 84; second = 65; third = 83; fourth = 75 };
+  label = label;
 }
+
+-- a row with the label TASK
+abbrev pub task : ℕ → ℕ → ℕ → ℕ → ℕ → Row
+task = row record { first = 84; second = 65; third = 83; fourth = 75 }
+
+-- Book A, with the ranks of its three rows: TAGS, CENT and DARK
+abbrev pub bookA : ℕ → ℕ → ℕ → List Row
+bookA x y z =
+    row record { first = 84; second = 65; third = 71; fourth = 83 } 9 1 20 20 x
+    ∷ row record { first = 67; second = 69; third = 78; fourth = 84 } 1 9 24 24 y
+    ∷ row record { first = 68; second = 65; third = 82; fourth = 75 } 5 5 35 35 z
+    ∷ []
 
 -- a worked figure: rows, what closing them under the two rank orders says, and the least solution of each row's memory
 -- and processor equation, under no ceiling
@@ -53,17 +66,17 @@ pub record Right (f : Figure) : Type 0 where
       → LeastSolution (processorWork (f .rows) (figureAt (f .memory)) (rowsBefore byProcessor (f .rows) k) k) (figureAt (f .processor) k)
   pub verdict : Says (f .rows) (figureAt (f .memory)) (figureAt (f .processor)) (f .verdict)
 
--- Three tasks of a scanning camera, in two orders; no rows; one row; a full row; and a row without loading before another.
+-- Book A in two orders; no rows; one row; a full row; and a row without loading before another.
 abbrev pub figures : List Figure
 figures =
     record {
-      rows = task 9 1 20 20 1 ∷ task 1 9 24 24 0 ∷ task 5 5 35 35 2 ∷ [];
+      rows = bookA 1 0 2;
       verdict = Accepted;
       memory = 10 ∷ 1 ∷ 15 ∷ [];
       processor = 10 ∷ 9 ∷ 16 ∷ [];
     }
     ∷ record {
-      rows = task 9 1 20 20 0 ∷ task 1 9 24 24 1 ∷ task 5 5 35 35 2 ∷ [];
+      rows = bookA 0 1 2;
       verdict = Late Processor 2;
       memory = 9 ∷ 10 ∷ 15 ∷ [];
       processor = 1 ∷ 10 ∷ 25 ∷ [];

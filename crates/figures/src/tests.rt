@@ -5,6 +5,7 @@ use rows::row::Row;
 
 mod books;
 mod drafts;
+mod listings;
 mod single;
 
 // A row with both ranks 0.

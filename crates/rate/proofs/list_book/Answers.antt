@@ -25,11 +25,11 @@ returns-in-Ok c =
             rating = x;
             rows =
                 ap rowsOf (sym same) ∙ c .in-Ok .ensures tt .rows
-                    ∙ ap (λ rows. rows ++ firstRows (c .args .book .now) (length (c .args .book .now) / 24)) (c .new-draft .ensures);
+                ∙ ap (λ rows. rows ++ firstRows (c .args .book .now) (length (c .args .book .now) / 24)) (c .new-draft .ensures);
             exact = subst (λ d. Decides (isAccepted (verdictIn x)) (Accepts (rowsOf d) memoryOrder processorOrder)) same (c .close-rating .ensures .exact);
             bounds =
                 subst (λ d. isAccepted (verdictIn x) ≡ true → BoundsRead (rowsOf d) memoryOrder processorOrder (boundsAt x)) same
-                    (c .close-rating .ensures .bounds);
+                (c .close-rating .ensures .bounds);
             late = subst (λ d. LateBy (rowsOf d) memoryOrder processorOrder (verdictIn x)) same (c .close-rating .ensures .late);
             value = c .list-rating .ensures .value;
             buffer = c .list-rating .ensures .buffer;
@@ -44,7 +44,7 @@ returns-in-Err c =
     in record {
       shows =
           subst (λ l. Shows l (c .args .book .now) (c .args .out .now) (c .list-fault .last .out) (c .list-fault .result)) loaded
-              (c .list-fault .ensures .value, c .list-fault .ensures .buffer);
+          (c .list-fault .ensures .value, c .list-fault .ensures .buffer);
       most = c .list-fault .ensures .most;
       long = search needs;
     }
