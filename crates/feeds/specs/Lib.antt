@@ -1,8 +1,6 @@
 pub mod Clocks
-pub mod Cuts
 pub mod Faults
 pub mod Fits
-pub mod Gates
 pub mod Marks
 pub mod Meanings
 pub mod Settings

@@ -1,9 +1,7 @@
 pub mod clockwork;
-pub mod cutoff;
 pub mod fault;
 pub mod feed;
 pub mod fit;
-pub mod gate;
 pub mod mark;
 pub mod pledge;
 mod setting;
