@@ -1,0 +1,2 @@
+pub mod ListChecks
+pub mod Standing

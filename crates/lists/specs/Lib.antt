@@ -1,0 +1,5 @@
+pub mod ListFaults
+pub mod ListRecords
+pub mod Lists
+pub mod Places
+pub mod Walks
