@@ -1,3 +1,5 @@
+#![tactic(auto)]
+
 ghost use Rattle.arrivals.specs.Ranges.{InRange};
 ghost use Rattle.std.specs.Prelude.{IfOk};
 

@@ -1,3 +1,5 @@
+#![tactic(auto)]
+
 pub mod example;
 pub mod fault;
 pub mod run;

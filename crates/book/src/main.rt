@@ -1,3 +1,5 @@
+#![tactic(auto)]
+
 use run::{Failed, make, show};
 use std::{env, io};
 

@@ -1,3 +1,5 @@
+#![tactic(auto)]
+
 use filter::convert::show_book;
 use filter::fault::ShowFault;
 use std::io;

@@ -1,3 +1,5 @@
+#![tactic(auto)]
+
 // Tests of marks, settings, feeds, layers over them, lists and the fit check.
 
 #[cfg(test)]

@@ -1,3 +1,5 @@
+#![tactic(auto)]
+
 pub mod clockwork;
 pub mod fault;
 pub mod feed;

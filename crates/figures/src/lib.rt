@@ -1,3 +1,5 @@
+#![tactic(auto)]
+
 ghost use Rattle.figures.specs.Piles.{PilesStand, piles};
 ghost use Rattle.figures.specs.Table.{FiguresStand, figures};
 ghost use Rattle.std.specs.Prelude.{◌≡◌, length};

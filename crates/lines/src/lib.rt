@@ -1,3 +1,5 @@
+#![tactic(auto)]
+
 pub mod fault;
 mod field;
 pub mod parse;

@@ -1,3 +1,5 @@
+#![tactic(auto)]
+
 pub mod fault;
 mod line;
 pub mod listing;

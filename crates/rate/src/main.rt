@@ -1,3 +1,5 @@
+#![tactic(auto)]
+
 ghost use Rattle.std.specs.Prelude.{◌≡◌, ◌≤◌, length, IfOk};
 ghost use Rattle.rate.specs.Listed.{Shows};
 ghost use Rattle.rows.specs.Books.{load_of};

@@ -1,3 +1,5 @@
+#![tactic(auto)]
+
 pub mod curve;
 pub mod demand;
 pub mod order;

@@ -1,2 +1,4 @@
+#![tactic(auto)]
+
 pub mod place;
 pub mod theorems;

@@ -1,3 +1,5 @@
+#![tactic(auto)]
+
 ghost use Rattle.simulate.specs.Counts.{Fair, KeepsBounds, Simulated};
 ghost use Rattle.std.specs.Prelude.{OnOk};
 

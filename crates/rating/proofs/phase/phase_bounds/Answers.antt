@@ -30,13 +30,13 @@ start-from-requires c =
     in (omega (arith, c.cost-own.ensures, cost_small c.args.phase _ (c.requires.valid _ t.within)), c.loop-k.invariant.4)
 
 -- no solution is below the last bound and the own cost together
-pub least-from-requires : goal.least-from-requires
-least-from-requires c = record {
+pub least_from-requires : goal.least_from-requires
+least_from-requires c = record {
   low =
-      demand_low c.own-cost.new.self (sources_of c.loop-k.demand) c.cost-own.result c.loop-k.base c.own-cost.ensures.own c.own-cost.ensures.sources
+      demand_low c.own_cost.new.self (sources_of c.loop-k.demand) c.cost-own.result c.loop-k.base c.own_cost.ensures.own c.own_cost.ensures.sources
       c.loop-k.invariant.3 c.start-from.result c.start-from.ensures;
   up =
-      demand_up c.own-cost.new.self (sources_of c.loop-k.demand) c.cost-own.result c.loop-k.base c.own-cost.ensures.own c.own-cost.ensures.sources
+      demand_up c.own_cost.new.self (sources_of c.loop-k.demand) c.cost-own.result c.loop-k.base c.own_cost.ensures.own c.own_cost.ensures.sources
       c.loop-k.invariant.3 c.start-from.result c.start-from.ensures;
 }
 
@@ -49,7 +49,7 @@ add-requires c =
       room =
           omega (
             arith,
-            ap length (c.own-cost.ensures.sources ∙ c.loop-k.invariant.1),
+            ap length (c.own_cost.ensures.sources ∙ c.loop-k.invariant.1),
             length_sources_for c.args.phase c.args.rows.now late (ranked c.args.ranking.now) os c.loop-k.k-index t,
             t.place,
             c.requires.few,
@@ -65,9 +65,9 @@ loop-k-preserved c =
     in let p = c.loop-k.k-index
     in let t = turn c.args.rows.now c.args.ranking.now os p c.rows-order.ensures c.requires.ranked c.loop-k-test.true
     in let late = figure_at c.args.late.now
-    in let d = c.own-cost.new.self
-    in let own = c.own-cost.ensures.own ∙ c.cost-own.ensures
-    in let sources = c.own-cost.ensures.sources ∙ c.loop-k.invariant.1
+    in let d = c.own_cost.new.self
+    in let own = c.own_cost.ensures.own ∙ c.cost-own.ensures
+    in let sources = c.own_cost.ensures.sources ∙ c.loop-k.invariant.1
     in let here = sym (bound_here c.args.phase c.args.rows.now late rs os p t d own sources) ∙ ap (least_within (demanded d).work) (sym c.ceiling.ensures)
     ∙ sym c.in-Some.ensures.value
     in (
@@ -75,8 +75,8 @@ loop-k-preserved c =
       c.add.ensures.sources ∙ ap (λ xs. xs ++ c.source.result ∷ []) sources ∙ ap (λ s. sources_for c.args.phase c.args.rows.now late (take p rs) ++ s ∷ []) c.source.ensures
           ∙ sources_more c.args.phase c.args.rows.now late rs os p t,
       bounds_more c.args.phase c.args.rows.now late rs os p t c.loop-k.found c.in-Some.w c.loop-k.invariant.0 c.requires.few c.loop-k.invariant.2 here,
-      subst (λ xs. Base xs c.raised-base.result) (sym (c.add.ensures.sources ∙ ap (λ xs. xs ++ c.source.result ∷ []) c.own-cost.ensures.sources))
-          (demand_more d (sources_of c.loop-k.demand) c.cost-own.result c.loop-k.base c.own-cost.ensures.own c.own-cost.ensures.sources c.loop-k.invariant.3
+      subst (λ xs. Base xs c.raised-base.result) (sym (c.add.ensures.sources ∙ ap (λ xs. xs ++ c.source.result ∷ []) c.own_cost.ensures.sources))
+          (demand_more d (sources_of c.loop-k.demand) c.cost-own.result c.loop-k.base c.own_cost.ensures.own c.own_cost.ensures.sources c.loop-k.invariant.3
           c.source.result _ c.in-Some.w c.raised-base.result
           (ap (λ s. s.cost) c.source.ensures ∙ source_cost c.args.phase _ _ ∙ sym c.cost-own.ensures)
           (subst (λ s. 1 ≤ s.period) (sym c.source.ensures) (source_sound c.args.phase _ _ (c.requires.valid _ t.within)).apart)
@@ -85,18 +85,18 @@ loop-k-preserved c =
           (omega (arith, c.in-Some.ensures.least.within, c.ceiling.ensures, ceiling_small c.args.phase _ (late (get_or os p 0)) (c.requires.valid _ t.within))),
     )
 
-pub returns-in-default : goal.returns-in-default
-returns-in-default c =
+pub returns-in_default : goal.returns-in_default
+returns-in_default c =
     let rs = ranked c.args.ranking.now
     in let os = c.rows-order.result.now
     in let p = c.loop-k.k-index
     in let t = turn c.args.rows.now c.args.ranking.now os p c.rows-order.ensures c.requires.ranked c.loop-k-test.true
     in let late = figure_at c.args.late.now
-    in let d = c.own-cost.new.self
-    in let own = c.own-cost.ensures.own ∙ c.cost-own.ensures
-    in let sources = c.own-cost.ensures.sources ∙ c.loop-k.invariant.1
+    in let d = c.own_cost.new.self
+    in let own = c.own_cost.ensures.own ∙ c.cost-own.ensures
+    in let sources = c.own_cost.ensures.sources ∙ c.loop-k.invariant.1
     in let here = sym (bound_here c.args.phase c.args.rows.now late rs os p t d own sources) ∙ ap (least_within (demanded d).work) (sym c.ceiling.ensures)
-    ∙ sym c.in-default.ensures.value
+    ∙ sym c.in_default.ensures.value
     in none_here c.args.phase c.args.rows.now late rs os p t c.loop-k.found c.loop-k.invariant.2 here
 
 pub returns : goal.returns

@@ -8,8 +8,8 @@ use Rattle.rating.proofs.rating.closing.close.Goals as goal
 pub returns : goal.returns
 returns g c =
     let x = c.analyse-analysis.result
-    in let s = g.A.Order.sequence c.args.memory-order
-    in let t = g.B.Order.sequence c.args.processor-order
+    in let s = g.A.Order.sequence c.args.memory_order
+    in let t = g.B.Order.sequence c.args.processor_order
     in let same = c.analyse-analysis.ensures.0
     in let m = subst (λ r. Agrees s.before (rows_of c.args.draft) (ranked r)) (sym c.analyse-analysis.ensures.1.0)
     (subst (λ rows. Agrees s.before rows (ranked c.rank-memory.result)) c.rows.ensures.value c.rank-memory.ensures.agrees)

@@ -16,13 +16,13 @@ returns c =
       refused = search rules;
     }
 
-pub returns-in-err-take-book : goal.returns-in-err-take-book
-returns-in-err-take-book c =
+pub returns-in_err-take_book : goal.returns-in_err-take_book
+returns-in_err-take_book c =
     let n = length (rows_of c.args.self.now)
-    in let p = err_from_is_err_and c.from-residual.result c.from-residual.ensures.1
+    in let p = err_from_is_err_and c.from_residual.result c.from_residual.ensures.1
     in let same : length (rows_of c.copied-trial.result) ≡ n = ap length c.copied-trial.ensures
-    in let value = p.1 ∙ load_ends n c.args.bytes.now c.in-err-take-book.field-0.0 p.0
-    (c.in-err-take-book.ensures.value ∙ ap (λ m. book_of m c.args.bytes.now) same) p.2
+    in let value = p.1 ∙ load_ends n c.args.bytes.now c.in_err-take_book.field-0.0 p.0
+    (c.in_err-take_book.ensures.value ∙ ap (λ m. book_of m c.args.bytes.now) same) p.2
     in record {
       value = value;
       first = subst (Loads n c.args.bytes.now) (sym value) (loads n c.args.bytes.now);

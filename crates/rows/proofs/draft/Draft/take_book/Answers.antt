@@ -11,25 +11,25 @@ loop-number-init c = (sym (first_rows-none (rows_of c.args.self.now) c.args.byte
 
 pub loop-number-preserved : goal.loop-number-preserved
 loop-number-preserved c =
-    let here = c.in-ok-take-numbered.ensures.rows
+    let here = c.in_ok-take_numbered.ensures.rows
     in (
-      rows_on (rows_of c.args.self.now) (rows_of c.loop-number.self) (rows_of c.take-numbered.new.self) c.args.bytes.now c.loop-number.number here
+      rows_on (rows_of c.args.self.now) (rows_of c.loop-number.self) (rows_of c.take_numbered.new.self) c.args.bytes.now c.loop-number.number here
           c.loop-number.invariant.0,
-      scan_on (length (rows_of c.args.self.now)) (length (rows_of c.loop-number.self)) (length (rows_of c.take-numbered.new.self)) c.args.bytes.now
+      scan_on (length (rows_of c.args.self.now)) (length (rows_of c.loop-number.self)) (length (rows_of c.take_numbered.new.self)) c.args.bytes.now
           c.loop-number.number
           (ap length here ∙ length_push (rows_of c.loop-number.self) (row_at c.args.bytes.now (24 * c.loop-number.number)))
-          c.loop-number-test.true c.in-ok-take-numbered.ensures.value c.loop-number.invariant.1,
+          c.loop-number-test.true c.in_ok-take_numbered.ensures.value c.loop-number.invariant.1,
     )
 
-pub returns-in-err-take-numbered : goal.returns-in-err-take-numbered
-returns-in-err-take-numbered c =
-    let p = err_from_is_err_and c.from-residual.result c.from-residual.ensures.1
+pub returns-in_err-take_numbered : goal.returns-in_err-take_numbered
+returns-in_err-take_numbered c =
+    let p = err_from_is_err_and c.from_residual.result c.from_residual.ensures.1
     in record {
       value =
           p.1
           ∙ book_ends (length (rows_of c.args.self.now)) (length (rows_of c.loop-number.self)) c.args.bytes.now c.loop-number.number
-          c.in-err-take-numbered.field-0.0 p.0 c.if-bytes-ne0.false c.loop-number-test.true c.loop-number.invariant.1
-          c.in-err-take-numbered.ensures.value p.2;
+          c.in_err-take_numbered.field-0.0 p.0 c.if-bytes-ne0.false c.loop-number-test.true c.loop-number.invariant.1
+          c.in_err-take_numbered.ensures.value p.2;
       rows = search rules;
     }
 

@@ -7,20 +7,20 @@ pub loop-source-init : goal.loop-source-init
 unfolding asked
 loop-source-init c = (omega arith, omega arith)
 
-pub rounded-up-jobs-requires : goal.rounded-up-jobs-requires
-rounded-up-jobs-requires c =
+pub rounded_up-jobs-requires : goal.rounded_up-jobs-requires
+rounded_up-jobs-requires c =
     let at = place c.args.self.now c.loop-source.source-index c.loop-source-test.true
     in (omega (arith, at.apart), omega arith)
 
-pub overflow-mul-sum : goal.overflow-mul-sum
-overflow-mul-sum c =
+pub overflow_mul-sum : goal.overflow_mul-sum
+overflow_mul-sum c =
     let at = place c.args.self.now c.loop-source.source-index c.loop-source-test.true
-    in omega (arith, jobs_small c.rounded-up-jobs.result _ c.rounded-up-jobs.ensures.small at.cheap)
+    in omega (arith, jobs_small c.rounded_up-jobs.result _ c.rounded_up-jobs.ensures.small at.cheap)
 
-pub overflow-add-sum : goal.overflow-add-sum
-overflow-add-sum c =
+pub overflow_add-sum : goal.overflow_add-sum
+overflow_add-sum c =
     let at = place c.args.self.now c.loop-source.source-index c.loop-source-test.true
-    in omega (arith, jobs_small c.rounded-up-jobs.result _ c.rounded-up-jobs.ensures.small at.cheap, c.loop-source.invariant.1, at.few)
+    in omega (arith, jobs_small c.rounded_up-jobs.result _ c.rounded_up-jobs.ensures.small at.cheap, c.loop-source.invariant.1, at.few)
 
 -- one more source is in the sum
 pub loop-source-preserved : goal.loop-source-preserved
@@ -29,8 +29,8 @@ loop-source-preserved c =
     in (
       omega (
         arith,
-        place-asks c.args.self.now c.loop-source.source-index c.args.w c.rounded-up-jobs.result at c.rounded-up-jobs.ensures.value,
+        place-asks c.args.self.now c.loop-source.source-index c.args.w c.rounded_up-jobs.result at c.rounded_up-jobs.ensures.value,
         c.loop-source.invariant.0,
       ),
-      omega (arith, jobs_small c.rounded-up-jobs.result _ c.rounded-up-jobs.ensures.small at.cheap, c.loop-source.invariant.1),
+      omega (arith, jobs_small c.rounded_up-jobs.result _ c.rounded_up-jobs.ensures.small at.cheap, c.loop-source.invariant.1),
     )
