@@ -6,13 +6,13 @@ pub trait Curve {
     ghost rising: { Self → Rising };
 
     fn ask(&self, w: u32) -> u64
-        ensures { result ≡ (Rising self.now).work w };
+        ensures { result ≡ (rising self.now).work w };
 }
 
 // The least length, up to the ceiling, in which exactly that much work is asked.
 pub fn least<C: Curve>(curve: &C, ceiling: u32) -> Option<u32>
-    ensures value { result ≡ least_within (Rising curve.now).work ceiling }
-    ensures least { Least (Rising curve.now).work ceiling result }
+    ensures value { result ≡ least_within (C.rising curve.now).work ceiling }
+    ensures least { Least (C.rising curve.now).work ceiling result }
 {
     least_from(curve, 0, ceiling)
 }
@@ -20,10 +20,10 @@ pub fn least<C: Curve>(curve: &C, ceiling: u32) -> Option<u32>
 // The same where no solution is below `from`, and `from` asks for itself at least: the lengths below are spared.
 // The curve never falls, so the work asked in a length at or below a solution is at or below it too.
 pub(crate) fn least_from<C: Curve>(curve: &C, from: u32, ceiling: u32) -> Option<u32>
-    requires low { (v : ℕ) → (Rising curve.now).work v ≡ v → from ≤ v }
-    requires up { from ≤ (Rising curve.now).work from }
-    ensures value { result ≡ least_within (Rising curve.now).work ceiling }
-    ensures least { Least (Rising curve.now).work ceiling result }
+    requires low { (v : ℕ) → (C.rising curve.now).work v ≡ v → from ≤ v }
+    requires up { from ≤ (C.rising curve.now).work from }
+    ensures value { result ≡ least_within (C.rising curve.now).work ceiling }
+    ensures least { Least (C.rising curve.now).work ceiling result }
 {
     let mut w = from;
     loop {
