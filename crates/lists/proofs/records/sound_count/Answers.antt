@@ -5,12 +5,12 @@ use Rattle.lists.proofs.records.sound_count.Goals as goal
 
 pub loop-number-preserved : goal.loop-number-preserved
 loop-number-preserved c =
-    let here = sym (ap is_ok c.check-record.ensures) ∙ sym c.is-ok.ensures.value ∙ c.if-is-ok.true
+    let here = sym (ap is_ok c.check_record.ensures) ∙ sym c.is_ok.ensures.value ∙ c.if-is_ok.true
     in (omega arith, sym (sound-on c.args.bytes.now c.loop-number.number _ c.loop-number-test.true here) ∙ c.loop-number.invariant.1)
 
-pub returns-else-is-ok : goal.returns-else-is-ok
-returns-else-is-ok c =
-    let here = sym (ap is_ok c.check-record.ensures) ∙ sym c.is-ok.ensures.value ∙ c.if-is-ok.false
+pub returns-else-is_ok : goal.returns-else-is_ok
+returns-else-is_ok c =
+    let here = sym (ap is_ok c.check_record.ensures) ∙ sym c.is_ok.ensures.value ∙ c.if-is_ok.false
     in let value = sym (sound-stops c.args.bytes.now c.loop-number.number _ c.loop-number-test.true here) ∙ c.loop-number.invariant.1
     in record { value = value; first = subst (FirstFaulty c.args.bytes.now) (sym value) (sound-first c.args.bytes.now) }
 

@@ -2,8 +2,5 @@ use Rattle.std.proofs.Common.{arith}
 use Rattle.lists.proofs.Standing.{placed-standing}
 use Rattle.lists.proofs.list.List.new.Goals as goal
 
-pub invariant-of-result : goal.invariant-of-result
-invariant-of-result c = (
-  c.sound-count-count.ensures.value,
-  (omega (arith, c.sound-count-count.ensures.first.within), (placed-standing c.args.bytes.now c.sound-count-count.result c.new.result c.new.ensures, tt)),
-)
+pub invariant_of-result : goal.invariant_of-result
+invariant_of-result c = record { counted = c.sound_count-count.ensures.value; within = omega (arith, c.sound_count-count.ensures.first.within); standing = placed-standing c.args.bytes.now c.sound_count-count.result c.new.result c.new.ensures }
