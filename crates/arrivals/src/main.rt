@@ -6,6 +6,7 @@ ghost use Rattle.std.specs.Prelude.{IfOk};
 use anyhow::anyhow;
 use std::env;
 use std::io::{Read, Write};
+use std::process::ExitCode;
 
 mod distance;
 mod report;
@@ -38,10 +39,12 @@ fn run(rt: &HostRuntime) -> anyhow::Result<()> {
 }
 
 // Tells a failure on standard error, and ends with status 1 then.
-fn main(rt: HostRuntime) -> anyhow::Result<()> {
-    let result = run(&rt);
-    if let Err(fault) = &result {
-        let _ = eprintln!(rt; "arrivals: {fault}");
+fn main(rt: HostRuntime) -> ExitCode {
+    match run(&rt) {
+        Ok(()) => ExitCode::SUCCESS,
+        Err(fault) => {
+            let _ = eprintln!(rt; "arrivals: {fault}");
+            ExitCode::FAILURE
+        }
     }
-    result
 }

@@ -7,8 +7,7 @@ use crate::takings::{Taking, gate_over, take_steps};
 use lists::list::List;
 use lists::records::check_list;
 use lists::records::fault::{CheckFault, ListFault};
-use std::alloc::Global;
-use std::fmt;
+use std::alloc::{AllocError, Global};
 
 // The number of the record that a fault lies in.
 fn faulty_record(fault: CheckFault) -> Option<usize>
@@ -20,26 +19,26 @@ fn faulty_record(fault: CheckFault) -> Option<usize>
     }
 }
 
-fn put_faultless(text: &mut String, count: usize) -> fmt::Result
+fn put_faultless(text: &mut String, count: usize) -> Result<(), AllocError>
     ensures { OnOk result (string_bytes text.new ≡ string_bytes text.old ++ faultless_text count) }
 {
     writeln!(text, "faultless {count}")
 }
 
-fn put_file_fault(text: &mut String, number: u8) -> fmt::Result
+fn put_file_fault(text: &mut String, number: u8) -> Result<(), AllocError>
     ensures { OnOk result (string_bytes text.new ≡ string_bytes text.old ++ refusal_text number None) }
 {
     writeln!(text, "turned down {number}")
 }
 
-fn put_record_fault(text: &mut String, number: u8, at: usize) -> fmt::Result
+fn put_record_fault(text: &mut String, number: u8, at: usize) -> Result<(), AllocError>
     ensures { OnOk result (string_bytes text.new ≡ string_bytes text.old ++ refusal_text number (Some at)) }
 {
     writeln!(text, "turned down {number} record {at}")
 }
 
 // The line of a refusal, with the record's number if one is at fault.
-fn put_refusal(text: &mut String, fault: CheckFault) -> fmt::Result
+fn put_refusal(text: &mut String, fault: CheckFault) -> Result<(), AllocError>
     ensures { OnOk result (string_bytes text.new ≡ string_bytes text.old ++ refusal_text (check_number fault) (record_of fault)) }
 {
     match faulty_record(fault) {
@@ -49,7 +48,7 @@ fn put_refusal(text: &mut String, fault: CheckFault) -> fmt::Result
 }
 
 // The line of the list check.
-fn put_word(text: &mut String, word: Result<usize, CheckFault>) -> fmt::Result
+fn put_word(text: &mut String, word: Result<usize, CheckFault>) -> Result<(), AllocError>
     ensures { OnOk result (string_bytes text.new ≡ string_bytes text.old ++ word_text word) }
 {
     match word {
@@ -59,7 +58,7 @@ fn put_word(text: &mut String, word: Result<usize, CheckFault>) -> fmt::Result
 }
 
 // The line of a taking: step, mark in two digits, memory and processor steps.
-fn put_taking(text: &mut String, taking: Taking) -> fmt::Result
+fn put_taking(text: &mut String, taking: Taking) -> Result<(), AllocError>
     ensures { OnOk result (string_bytes text.new ≡ string_bytes text.old ++ line_text taking) }
 {
     let Taking {
@@ -73,7 +72,7 @@ fn put_taking(text: &mut String, taking: Taking) -> fmt::Result
     writeln!(text, "{step} {tens}{ones} {memory} {processor}")
 }
 
-fn put_takings(text: &mut String, takings: &[Taking]) -> fmt::Result
+fn put_takings(text: &mut String, takings: &[Taking]) -> Result<(), AllocError>
     ensures { OnOk result (string_bytes text.new ≡ string_bytes text.old ++ lines_text takings.now) }
 {
     for taking in takings {
@@ -83,7 +82,7 @@ fn put_takings(text: &mut String, takings: &[Taking]) -> fmt::Result
 }
 
 // The last line: how many arrivals were taken, and how many records the list took in.
-fn put_counts(text: &mut String, taken: usize, count: usize) -> fmt::Result
+fn put_counts(text: &mut String, taken: usize, count: usize) -> Result<(), AllocError>
     ensures { OnOk result (string_bytes text.new ≡ string_bytes text.old ++ counts_text taken count) }
 {
     writeln!(text, "taken {taken} of {count}")

@@ -1,4 +1,4 @@
-use Rattle.std.proofs.Common.{sym, subst, arith}
+use Rattle.std.proofs.Common.{arith}
 use Rattle.arrivals.proofs.Steps.{none-run, run_on}
 use Rattle.arrivals.proofs.takings.take_steps.Goals as goal
 
@@ -7,7 +7,7 @@ loop-step-init g c = (omega arith, none-run _ _ _ c.new-takings.ensures.items)
 
 pub loop-step-preserved : goal.loop-step-preserved
 loop-step-preserved g c =
-    let made = c.in-ok-take-step.ensures
+    let made = c.in_ok-take_step.ensures
     in (
       omega arith,
       run_on _ _ _ _ _ _ _ c.loop-step.invariant.1
