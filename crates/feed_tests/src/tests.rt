@@ -32,24 +32,27 @@ fn list_of(heap: Global, records: &[(u32, u32, u32, u8)]) -> Result<Vec<u8>, All
 }
 
 // Takes whatever is offered, step by step and marks from 0 upward, and compares it with what is wanted: step, mark, m and c.
+// The case is named if they differ.
 fn takes<F: Feed>(
     rt: &impl Abort,
+    case: u32,
     feed: &mut F,
     steps: u32,
     wanted: &[(u32, u8, u32, u32)],
 ) -> Result<(), Fail> {
     let mut next = 0;
     for step in 0..steps {
-        next = takes_step(rt, feed, step, wanted, next)?;
+        next = takes_step(rt, case, feed, step, wanted, next)?;
         feed.advance();
     }
-    assert_eq!(rt; next, wanted.len());
+    assert_eq!(rt; next, wanted.len(), "case {case}");
     Ok(())
 }
 
 // The same in one step, from a place of what is wanted on; answers the place after.
 fn takes_step<F: Feed>(
     rt: &impl Abort,
+    case: u32,
     feed: &mut F,
     step: u32,
     wanted: &[(u32, u8, u32, u32)],
@@ -59,10 +62,10 @@ fn takes_step<F: Feed>(
     for i in 0..32 {
         let k = Mark::new(i)?;
         let offer = feed.look(k);
-        assert_eq!(rt; feed.take(k), offer);
+        assert_eq!(rt; feed.take(k), offer, "case {case}");
         if let Some((memory, processor)) = offer {
             let taking = (step, i, memory, processor);
-            assert_eq!(rt; wanted.get(next).copied(), Some(taking));
+            assert_eq!(rt; wanted.get(next).copied(), Some(taking), "case {case}");
             next = next.saturating_add(1);
         }
     }

@@ -62,7 +62,13 @@ fn faults(rt: HostRuntime) -> Result<(), Fail> {
         assert_eq!(rt; told(check_list(&bytes)), (fault, Some(2)), "{}", place);
         let mut list = List::new(&bytes);
         assert_eq!(rt; list.count(), 2, "{}", place);
-        takes(&rt, &mut list, 12, &[(5, 0, 1, 11), (6, 31, 2, 12)]).note(place)?;
+        takes(
+            &rt,
+            u32::from(place),
+            &mut list,
+            12,
+            &[(5, 0, 1, 11), (6, 31, 2, 12)],
+        )?;
     }
     Ok(())
 }
@@ -72,12 +78,13 @@ fn faults(rt: HostRuntime) -> Result<(), Fail> {
 fn cut_short(rt: HostRuntime) -> Result<(), Fail> {
     for missing in 0..17 {
         let mut bytes = list_of(rt.alloc(), &[(0, 1, 1, 4), (1, 2, 2, 4), (2, 3, 3, 4)])?;
-        bytes.truncate(48 - missing);
+        bytes.truncate(48 - missing as usize);
         let mut list = List::new(&bytes);
         if missing == 0 {
             assert_eq!(rt; told(check_list(&bytes)), (0, Some(3)));
             takes(
                 &rt,
+                missing,
                 &mut list,
                 4,
                 &[(0, 4, 1, 1), (1, 4, 2, 2), (2, 4, 3, 3)],
@@ -89,7 +96,7 @@ fn cut_short(rt: HostRuntime) -> Result<(), Fail> {
                 (41, None)
             };
             assert_eq!(rt; told(check_list(&bytes)), wanted, "{}", missing);
-            takes(&rt, &mut list, 4, &[(0, 4, 1, 1), (1, 4, 2, 2)]).note(missing)?;
+            takes(&rt, missing, &mut list, 4, &[(0, 4, 1, 1), (1, 4, 2, 2)])?;
         }
     }
     Ok(())
@@ -150,6 +157,7 @@ fn clock_and_rest(rt: HostRuntime) -> Result<(), Fail> {
     );
     takes(
         &rt,
+        0,
         &mut list,
         8,
         &[(0, 5, 3, 3), (1, 6, 2, 2), (4, 6, 4, 4), (5, 6, 5, 5)],

@@ -23,7 +23,7 @@ fn takes_through<F: Feed + Drop>(
     pile.set(k, 5)?;
     assert_eq!(rt; promised(&pile, k), (5, 4, 2));
     assert_eq!(rt; promised(&pile, Mark::new(2)?), (1, N, N));
-    takes(rt, &mut pile, 16, wanted)
+    takes(rt, 0, &mut pile, 16, wanted)
 }
 
 // At the mark that is set the outer gate decides the distance and the cut-off the costs; at the others the list does.
@@ -69,8 +69,8 @@ fn takes_twice<F: Feed + Drop>(
     inner.set(k, below)?;
     let mut outer = Gate::new(inner);
     outer.set(k, above)?;
-    assert_eq!(rt; outer.distance(k), both);
-    takes(rt, &mut outer, 12, &[(3, 0, 1, 1), (second, 0, 2, 2)])
+    assert_eq!(rt; outer.distance(k), both, "case {both}");
+    takes(rt, both, &mut outer, 12, &[(3, 0, 1, 1), (second, 0, 2, 2)])
 }
 
 // The greater distance decides, whichever gate is on top.
@@ -80,7 +80,7 @@ fn two_gates(rt: HostRuntime) -> Result<(), Fail> {
     // distances below and above; the distance of both, the step of the second taking
     let cases = [(5, 7, 7, 10), (7, 5, 7, 10), (5, 1, 5, 8), (1, 1, 1, 4)];
     for (below, above, both, second) in cases {
-        takes_twice(&rt, List::new(&bytes), below, above, both, second).note(both)?;
+        takes_twice(&rt, List::new(&bytes), below, above, both, second)?;
     }
     Ok(())
 }

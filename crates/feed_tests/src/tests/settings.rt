@@ -42,13 +42,14 @@ fn marks(rt: HostRuntime) {
 // Whether a pledge promises this at a mark, and that at the marks beside it.
 fn promises<P: Pledge>(
     rt: &impl Abort,
+    case: u32,
     pledge: &P,
     here: (u32, u32, u32),
     others: (u32, u32, u32),
 ) -> Result<(), Fail> {
-    assert_eq!(rt; promised(pledge, Mark::new(9)?), here);
-    assert_eq!(rt; promised(pledge, Mark::new(8)?), others);
-    assert_eq!(rt; promised(pledge, Mark::new(10)?), others);
+    assert_eq!(rt; promised(pledge, Mark::new(9)?), here, "case {case}");
+    assert_eq!(rt; promised(pledge, Mark::new(8)?), others, "case {case}");
+    assert_eq!(rt; promised(pledge, Mark::new(10)?), others, "case {case}");
     Ok(())
 }
 
@@ -81,7 +82,7 @@ fn sheets(rt: HostRuntime) -> Result<(), Fail> {
             distance
         );
         let after = if fault == 0 { figures } else { (3, 4, 5) };
-        promises(&rt, &sheet, after, (1, N, N)).note(distance)?;
+        promises(&rt, distance, &sheet, after, (1, N, N))?;
     }
     Ok(())
 }
@@ -115,7 +116,7 @@ fn clockworks(rt: HostRuntime) -> Result<(), Fail> {
         let answer = clockwork.set(Mark::new(9)?, offset, interval, memory, processor);
         assert_eq!(rt; told(answer), fault, "{}", offset);
         let after = if fault == 0 { figures } else { (3, 4, 5) };
-        promises(&rt, &clockwork, after, (N, 0, 1)).note(offset)?;
+        promises(&rt, offset, &clockwork, after, (N, 0, 1))?;
         let offer = if offset > 0 && fault == 0 {
             None
         } else {
@@ -149,7 +150,7 @@ fn gates(rt: HostRuntime) -> Result<(), Fail> {
             distance
         );
         let after = if fault == 0 { distance } else { 3 };
-        promises(&rt, &gate, (after, 6, 7), (N, 0, 1)).note(distance)?;
+        promises(&rt, distance, &gate, (after, 6, 7), (N, 0, 1))?;
         assert_eq!(rt; gate.look(Mark::new(9)?), Some((6, 7)), "{}", distance);
     }
     Ok(())
@@ -181,7 +182,7 @@ fn cut_offs(rt: HostRuntime) -> Result<(), Fail> {
             memory
         );
         let (m, c) = if fault == 0 { ceilings } else { (3, 2) };
-        promises(&rt, &cut, (1, m.min(6), c.min(7)), (N, 0, 1)).note(memory)?;
+        promises(&rt, memory, &cut, (1, m.min(6), c.min(7)), (N, 0, 1))?;
         assert_eq!(rt;
             cut.look(Mark::new(9)?),
             Some((m.min(6), c.min(7))),
