@@ -25,7 +25,7 @@ done held t i = gets (held t) i
 
 -- backlog t i: the work of row i that can be done in step t. fresh t i: the part of it that is new in step t. held t: the row
 -- that has the resource in step t, and does one unit of its work. A resource that a later row may keep for some steps would
--- weaken `is-first` alone.
+-- weaken `is_first` alone.
 pub record Service (n : ℕ) (before : ℕ → ℕ → Bool) (H : ℕ) (backlog fresh : ℕ → ℕ → ℕ) (held : ℕ → Option ℕ) : Type 0 where
   pub starts : (i : ℕ) → i < n → 0 < H → backlog 0 i ≡ fresh 0 i
   pub goes_on : (t i : ℕ) → i < n → suc t < H → backlog (suc t) i + done held t i ≡ backlog t i + fresh (suc t) i
