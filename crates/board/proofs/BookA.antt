@@ -1,5 +1,5 @@
 -- Book A is accepted under its two rank orders.
-use Rattle.std.proofs.Common.{◌≡◌, ℕ, zero, suc, ◌+◌, ◌<◌, ◌≤◌, [], ◌∷◌, length, refl, arith}
+use Rattle.std.proofs.Common.{ℕ, zero, suc, ◌+◌, ◌<◌, ◌≤◌, [], ◌∷◌, refl, arith}
 use Rattle.rating.specs.Bounds.{figure_at, memory_work, processor_work, row_of}
 use Rattle.rating.specs.Closing.{Accepts}
 use Rattle.rating.specs.Curves.{LeastSolution, first_solution}

@@ -1,10 +1,10 @@
 -- The first rule, row by row.
-use Rattle.std.proofs.Common.{◌≡◌, ℕ, suc, ◌+◌, ◌<◌, ◌≤◌, true, false, sym, refl, ap, ◌∙◌, subst, inl, inr, add-one, arith}
+use Rattle.std.proofs.Common.{◌≡◌, ℕ, suc, ◌+◌, ◌<◌, true, false, ap, ◌∙◌, subst, inl, inr, add-one, arith}
 use Rattle.std.proofs.lemmas.Bool.{cases_lt}
 use Rattle.feeds.specs.Meanings.{View}
 use Rattle.schedule.specs.Places.{admitted, takes}
 use Rattle.board.specs.Rules.{Entered, EnteredAt}
-use Rattle.board.specs.Runs.{Drawn, DrawnAt, offered, place, placed, taking}
+use Rattle.board.specs.Runs.{DrawnAt, offered, place, placed, taking}
 use Rattle.board.specs.declared.run.Run.{Run}
 
 module _ {A B P : Type 0} (view : P → View) (k : ℕ) (s v u : Run A B P) (e : Entered view k s v) (n : EnteredAt view k v u) where

@@ -1,15 +1,14 @@
 -- New runs, and what steps make of them.
-use Rattle.std.proofs.Common.{◌≡◌, ℕ, zero, suc, ◌+◌, ◌<◌, ◌≤◌, min, [], ◌∷◌, length, get_or, replicate, Ok, Err, Result, sym, refl, ap, ◌∙◌, subst, arith}
+use Rattle.std.proofs.Common.{◌≡◌, ℕ, zero, suc, ◌+◌, [], ◌∷◌, get_or, replicate, Ok, Err, Result, refl, ap, ◌∙◌, subst, arith}
 use Rattle.rating.specs.Ranked.{ranked}
 use Rattle.rating.specs.Ratings.{ranking_in}
-use Rattle.rating.specs.declared.rating.Rating.{Rating}
 use Rattle.rating.specs.declared.verdict.Phase.TheVariants.{Memory, Processor}
 use Rattle.feeds.specs.Meanings.{View}
 use Rattle.schedule.specs.declared.place.Slot.TheVariants.{Empty}
 use Rattle.board.specs.Calls.{Went}
-use Rattle.board.specs.Chains.{Reached, new, stayed, stepped}
+use Rattle.board.specs.Chains.{new, stayed, stepped}
 use Rattle.board.specs.Example.{Gone}
-use Rattle.board.specs.Runs.{Along, New, Stepped, memory_ranking, place, processor_ranking}
+use Rattle.board.specs.Runs.{Along, New, Stepped, memory_ranking, processor_ranking}
 use Rattle.board.specs.declared.fault.StepFault.{StepFault}
 use Rattle.board.specs.declared.run.Answer.{Answer}
 use Rattle.board.specs.declared.run.Run.{Run}

@@ -1,13 +1,13 @@
 -- The guarantee: whatever a new run reaches is a trace of the theory.
-use Rattle.std.proofs.Common.{◌≡◌, ℕ, zero, suc, ◌+◌, ◌-◌, ◌*◌, ◌<◌, ◌≤◌, true, List, ◌∷◌, ◌++◌, length, Some, None, Option, sym, refl, ap, ◌∙◌, subst, arith, length-append}
-use Rattle.rows.specs.Drafts.{EachValid, rows_of}
+use Rattle.std.proofs.Common.{◌≡◌, ℕ, zero, suc, ◌+◌, ◌-◌, ◌*◌, ◌<◌, ◌≤◌, List, ◌∷◌, ◌++◌, length, Some, None, Option, sym, refl, ap, ◌∙◌, subst, arith, length-append}
+use Rattle.rows.specs.Drafts.{rows_of}
 use Rattle.rows.specs.declared.row.Row.{Row}
 use Rattle.rows.proofs.RowLists.{rows-valid}
-use Rattle.rating.specs.Bounds.{is_accepted, memory_figure_of, processor_figure_of, row_of}
+use Rattle.rating.specs.Bounds.{row_of}
 use Rattle.rating.specs.Closing.{InTime}
 use Rattle.rating.specs.Orders.{Sequence, comes}
 use Rattle.rating.specs.Quotients.{ceil}
-use Rattle.rating.specs.Ratings.{draft_in, verdict_in}
+use Rattle.rating.specs.Ratings.{draft_in}
 use Rattle.feeds.specs.Fits.{Fitting}
 use Rattle.feeds.specs.Meanings.{Offered, SamePledge, View}
 use Rattle.schedule.specs.Places.{LivesIn, LoadsIn, Within, admitted, is_computing, is_loading, job, moved, names}

@@ -1,17 +1,14 @@
 -- The rules of a step, put together.
-use Rattle.std.proofs.Common.{◌≡◌, ℕ, suc, ◌+◌, ◌-◌, ◌<◌, ◌≤◌, Bool, true, false, cond, List, [], ◌∷◌, length, get_or, Some, None, Option, sym, refl, ap, ◌∙◌, subst, inl, inr, arith}
+use Rattle.std.proofs.Common.{◌≡◌, ℕ, suc, ◌+◌, ◌-◌, ◌<◌, Bool, true, false, cond, List, [], ◌∷◌, length, get_or, Some, None, Option, sym, refl, ap, ◌∙◌, subst, inl, inr, arith}
 use Rattle.std.proofs.lemmas.Bool.{both_ways, cases_lt, eqb-true}
 use Rattle.rows.specs.declared.row.Row.{Row}
 use Rattle.rating.specs.Ranked.{ranked}
-use Rattle.rating.specs.Rankings.{Permutes}
 use Rattle.rating.specs.Ratings.{ranking_in}
 use Rattle.rating.specs.declared.ranking.Ranking.{Ranking}
 use Rattle.rating.specs.declared.rating.Analysis.{Analysis}
-use Rattle.rating.specs.declared.rating.Rating.{Rating}
-use Rattle.rating.specs.declared.verdict.Phase.{Phase}
 use Rattle.rating.specs.declared.verdict.Phase.TheVariants.{Memory, Processor}
 use Rattle.rating.proofs.Rankings.{permutes, ranked-small}
-use Rattle.feeds.specs.Meanings.{Advanced, SamePledge, View}
+use Rattle.feeds.specs.Meanings.{Advanced, View}
 use Rattle.schedule.specs.Places.{is_computing, is_loading, moved, names}
 use Rattle.schedule.specs.declared.place.Slot.{Slot}
 use Rattle.schedule.specs.declared.place.Slot.TheVariants.{Empty, Loading, Computing}

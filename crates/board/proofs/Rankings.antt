@@ -1,12 +1,11 @@
 -- The guarantee of a run whose resources choose along the rankings of its rating.
-use Rattle.std.proofs.Common.{◌≡◌, ℕ, ◌+◌, ◌-◌, ◌*◌, ◌<◌, ◌≤◌, true, cond, ltb, List, length, Some, None, Option, sym, refl, ap, ◌∙◌, subst}
+use Rattle.std.proofs.Common.{◌≡◌, ℕ, ◌<◌, true, ltb, List, length, Some, None, Option, sym, refl, ap, ◌∙◌, subst}
 use Rattle.std.proofs.lemmas.Bool.{and_from, cond-true, lt-ltb}
 use Rattle.rows.specs.Drafts.{rows_of}
 use Rattle.rows.specs.declared.row.Row.{Row}
-use Rattle.rating.specs.Bounds.{is_accepted, memory_figure_of, processor_figure_of, row_of}
+use Rattle.rating.specs.Bounds.{is_accepted, memory_figure_of, processor_figure_of}
 use Rattle.rating.specs.Closing.{InTime}
 use Rattle.rating.specs.Orders.{Sequence}
-use Rattle.rating.specs.Quotients.{ceil}
 use Rattle.rating.specs.Ranked.{ranked}
 use Rattle.rating.specs.Rankings.{Agrees, Permutes}
 use Rattle.rating.specs.Ratings.{bounds_at, draft_in, verdict_in}
@@ -17,10 +16,10 @@ use Rattle.rating.proofs.Exact.{in_time}
 use Rattle.rating.proofs.Rankings.{permutes, sum-ranked}
 use Rattle.feeds.specs.Fits.{Fitting}
 use Rattle.feeds.specs.Meanings.{View}
-use Rattle.schedule.specs.Places.{LivesIn, LoadsIn, is_computing, is_loading}
+use Rattle.schedule.specs.Places.{is_computing, is_loading}
 use Rattle.board.specs.Chains.{Reached}
 use Rattle.board.specs.Guarantee.{BoundsOf, Guarantee, GuaranteeStands, Past}
-use Rattle.board.specs.Runs.{Along, Choice, FirstBy, New, Stepped, memory_ranking, placed, processor_ranking, rows_in}
+use Rattle.board.specs.Runs.{Along, FirstBy, New, Stepped, memory_ranking, placed, processor_ranking, rows_in}
 use Rattle.board.specs.declared.run.Answer.{Answer}
 use Rattle.board.specs.declared.run.Run.{Run}
 use Rattle.board.proofs.Chains.{reached_too}

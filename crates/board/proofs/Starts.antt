@@ -1,13 +1,8 @@
 -- A run that is begun from a draft closed under two orders.
-use Rattle.std.proofs.Common.{◌≡◌, List, sym, refl, subst}
-use Rattle.rows.specs.Drafts.{rows_of}
-use Rattle.rows.specs.declared.draft.Draft.{Draft}
+use Rattle.std.proofs.Common.{◌≡◌, List, refl, subst}
 use Rattle.rows.specs.declared.row.Row.{Row}
 use Rattle.rating.specs.Orders.{Sequence}
-use Rattle.rating.specs.Ranked.{ranked}
 use Rattle.rating.specs.Rankings.{Agrees}
-use Rattle.rating.specs.Ratings.{draft_in}
-use Rattle.rating.specs.declared.rating.Rating.{Rating}
 use Rattle.feeds.specs.Meanings.{View}
 use Rattle.board.specs.Guarantee.{AssuredBy, ServesBy}
 use Rattle.board.specs.Runs.{New, memory_ranking, processor_ranking, rows_in}

@@ -14,20 +14,20 @@ pub returns : goal.returns
 returns c =
     let begun = c.begin-run.ensures.new in
     let back = sym begun.1.0 in
-    let kept = ap rows_of c.close-rating.ensures.kept.0 ∙ c.in-ok-book-a-draft.ensures in
+    let kept = ap rows_of c.close-rating.ensures.kept.0 ∙ c.in_ok-book_a_draft.ensures in
     record {
       start = c.begin-run.result;
       begun = begun.0;
       rows = ap (λ x. rows_of (draft_in x)) begun.1.0 ∙ kept;
       clock =
           subst (λ y. (k : ℕ) → k < 3 → Has (entry_of y k) true 0 (row_of book_a k).period (row_of book_a k).memory (row_of book_a k).compute) (sym begun.1.1)
-          (subst (λ rows. (k : ℕ) → k < length rows → Has (entry_of c.at-full-cost-clock.result k) true 0 (row_of rows k).period (row_of rows k).memory (row_of rows k).compute) kept
-          c.at-full-cost-clock.ensures.rows);
+          (subst (λ rows. (k : ℕ) → k < length rows → Has (entry_of c.at_full_cost-clock.result k) true 0 (row_of rows k).period (row_of rows k).memory (row_of rows k).compute) kept
+          c.at_full_cost-clock.ensures.rows);
       accepted =
           subst (λ x. is_accepted (verdict_in x) ≡ true) back
-          (c.close-rating.ensures.exact.1 (subst (λ rows. Accepts rows by_memory by_processor) (sym c.in-ok-book-a-draft.ensures) accepts));
+          (c.close-rating.ensures.exact.1 (subst (λ rows. Accepts rows by_memory by_processor) (sym c.in_ok-book_a_draft.ensures) accepts));
       fits =
           subst (λ x. Fitting (clock_view c.begin-run.result.pile) (rows_of (draft_in x))) back
-          (subst (λ y. Fitting (clock_view y) (rows_of (draft_in c.close-rating.result))) (sym begun.1.1) c.at-full-cost-clock.ensures.fits);
+          (subst (λ y. Fitting (clock_view y) (rows_of (draft_in c.close-rating.result))) (sym begun.1.1) c.at_full_cost-clock.ensures.fits);
       gone = c.go.ensures;
     }

@@ -3,4 +3,4 @@ use Rattle.board.proofs.example.go.Given as goal
 
 -- so far as many steps as turns
 abbrev pub invariant-loop-step : goal.invariant-loop-step
-invariant-loop-step g l = Gone g.P.Pledge.view l.initial.run l.-step l.run
+invariant-loop-step g l = Gone g.P.Pledge.view l.initial.run l._step l.run

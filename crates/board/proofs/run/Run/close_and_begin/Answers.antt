@@ -11,8 +11,8 @@ use Rattle.board.proofs.run.Run.close_and_begin.Goals as goal
 -- the run has the rating that closing made
 pub returns : goal.returns
 returns g c =
-    let m = g.A.Order.sequence c.args.memory-order in
-    let p = g.B.Order.sequence c.args.processor-order in
+    let m = g.A.Order.sequence c.args.memory_order in
+    let p = g.B.Order.sequence c.args.processor_order in
     let r = c.begin.result in
     let closed = c.close.ensures in
     let back = sym c.begin.ensures.new.1.0 in
