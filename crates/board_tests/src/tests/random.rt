@@ -68,7 +68,7 @@ fn guarantee(rt: HostRuntime) -> Result<(), Fail> {
         bounds: 0,
     };
     for seed in 0..400 {
-        drawn(&rt, rt.alloc(), seed, &mut tally).note(seed)?;
+        drawn(&rt, rt.alloc(), seed, &mut tally)?;
     }
     assert_eq!(rt; (tally.accepted, tally.bounds), (205, 122_993));
     Ok(())
@@ -83,10 +83,10 @@ fn drawn(rt: &impl Abort, heap: Global, seed: u32, tally: &mut Tally) -> Result<
     let by_deadline = (ByDeadline, Figure::Deadline);
     let by_period = (ByPeriod, Figure::Period);
     let bounds = match seed % 4 {
-        0 => rated(rt, heap, dice, draft, by_memory, by_processor)?,
-        1 => rated(rt, heap, dice, draft, by_deadline, by_period)?,
-        2 => rated(rt, heap, dice, draft, by_period, by_memory)?,
-        _ => rated(rt, heap, dice, draft, by_processor, by_deadline)?,
+        0 => rated(rt, heap, seed, dice, draft, by_memory, by_processor)?,
+        1 => rated(rt, heap, seed, dice, draft, by_deadline, by_period)?,
+        2 => rated(rt, heap, seed, dice, draft, by_period, by_memory)?,
+        _ => rated(rt, heap, seed, dice, draft, by_processor, by_deadline)?,
     };
     if bounds > 0 {
         tally.accepted = tally.accepted.saturating_add(1);
@@ -99,6 +99,7 @@ fn drawn(rt: &impl Abort, heap: Global, seed: u32, tally: &mut Tally) -> Result<
 fn rated<A: Order + Drop, B: Order + Drop>(
     rt: &impl Abort,
     heap: Global,
+    seed: u32,
     dice: Dice,
     draft: Draft,
     memory: (A, Figure),
@@ -116,15 +117,15 @@ fn rated<A: Order + Drop, B: Order + Drop>(
         Clockwork::at_full_cost(&rating),
         Clockwork::at_full_cost(&rating),
     );
-    let rating = watch(rt, heap, rating, full, figures)?;
+    let rating = watch(rt, heap, seed, rating, full, figures)?;
     let less = (fewer(&rating, dice)?, fewer(&rating, dice)?);
-    let rating = watch(rt, heap, rating, less, figures)?;
+    let rating = watch(rt, heap, seed, rating, less, figures)?;
     let bytes = arrivals(heap, &rating, dice)?;
     let lists = (List::new(&bytes), List::new(&bytes));
-    let rating = layered(rt, heap, rating, lists, figures)?;
+    let rating = layered(rt, heap, seed, rating, lists, figures)?;
     let lists = (List::new(&bytes), List::new(&bytes));
-    let rating = deep(rt, heap, rating, lists, figures, dice)?;
-    assert_eq!(rt; bounds_of(&rating), bounds);
+    let rating = deep(rt, heap, seed, rating, lists, figures, dice)?;
+    assert_eq!(rt; bounds_of(&rating), bounds, "seed {seed}");
     Ok(bounds)
 }
 
@@ -142,19 +143,21 @@ fn bounds_of<A, B>(rating: &Rating<A, B>) -> u32 {
 fn layered<A: Drop, B: Drop, F: Feed + Drop>(
     rt: &impl Abort,
     heap: Global,
+    seed: u32,
     rating: Rating<A, B>,
     feeds: (F, F),
     figures: (Figure, Figure),
 ) -> Result<Rating<A, B>, Fail> {
     let (feed, twin) = feeds;
     let piles = (fitted(feed, &rating)?, fitted(twin, &rating)?);
-    watch(rt, heap, rating, piles, figures)
+    watch(rt, heap, seed, rating, piles, figures)
 }
 
 // The same with a gate of other distances below them.
 fn deep<A: Drop, B: Drop, F: Feed + Drop>(
     rt: &impl Abort,
     heap: Global,
+    seed: u32,
     rating: Rating<A, B>,
     feeds: (F, F),
     figures: (Figure, Figure),
@@ -162,5 +165,5 @@ fn deep<A: Drop, B: Drop, F: Feed + Drop>(
 ) -> Result<Rating<A, B>, Fail> {
     let (feed, twin) = feeds;
     let gates = (shut(feed, dice)?, shut(twin, dice)?);
-    layered(rt, heap, rating, gates, figures)
+    layered(rt, heap, seed, rating, gates, figures)
 }

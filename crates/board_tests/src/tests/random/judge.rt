@@ -17,6 +17,7 @@ const STEPS: u32 = 1_000;
 pub(super) fn watch<A: Drop, B: Drop, P: Feed + Drop>(
     rt: &impl Abort,
     heap: Global,
+    seed: u32,
     rating: Rating<A, B>,
     piles: (P, P),
     figures: (Figure, Figure),
@@ -27,21 +28,22 @@ pub(super) fn watch<A: Drop, B: Drop, P: Feed + Drop>(
     let mut run = Run::begin(rating, pile);
     let mut answers = Vec::new(heap);
     for _ in 0..STEPS {
-        answers.push(judged(rt, &mut run, &mut twin, &limits)?)?;
+        answers.push(judged(rt, seed, &mut run, &mut twin, &limits)?)?;
     }
-    shares(rt, &answers, &limits)?;
+    shares(rt, seed, &answers, &limits)?;
     Ok(run.end())
 }
 
 // Takes a step, and compares its answer and what it leaves with the rules.
 fn judged<A, B, P: Feed>(
     rt: &impl Abort,
+    seed: u32,
     run: &mut Run<A, B, P>,
     twin: &mut P,
     limits: &[Limit; 32],
 ) -> Result<Answer, Fail> {
     let step = run.number();
-    let places = entered(rt, run, twin)?;
+    let places = entered(rt, seed, run, twin)?;
     let memory = chosen(Phase::Memory, &places, limits);
     let processor = chosen(Phase::Processor, &places, limits);
     let finished = ending(processor, &places, step);
@@ -52,17 +54,18 @@ fn judged<A, B, P: Feed>(
         finished,
     };
     let answer = run.step()?;
-    assert_eq!(rt; answer, wanted);
+    assert_eq!(rt; answer, wanted, "seed {seed}");
     twin.advance();
-    assert_eq!(rt; run.number(), step.saturating_add(1));
-    in_time(rt, finished, limits)?;
-    left(run, &places, memory, processor, limits)?;
+    assert_eq!(rt; run.number(), step.saturating_add(1), "seed {seed}");
+    in_time(rt, seed, finished, limits)?;
+    left(rt, seed, run, &places, memory, processor, limits)?;
     Ok(answer)
 }
 
 // The places after the first rule. An arrival that comes to a place that isn't empty fails.
 fn entered<A, B, P: Feed>(
     rt: &impl Abort,
+    seed: u32,
     run: &Run<A, B, P>,
     twin: &mut P,
 ) -> Result<[Slot; 32], Fail> {
@@ -71,14 +74,14 @@ fn entered<A, B, P: Feed>(
         if let Some(place) = run.place(k) {
             let mark = Mark::new(k)?;
             let offer = twin.look(mark);
-            places[k as usize] = arrived(place, offer, run.number())?;
-            assert_eq!(rt; twin.take(mark), offer);
+            places[k as usize] = arrived(seed, place, offer, run.number())?;
+            assert_eq!(rt; twin.take(mark), offer, "seed {seed}");
         }
     }
     Ok(places)
 }
 
-fn arrived(place: Slot, offer: Option<(u32, u32)>, since: u32) -> Result<Slot, Fail> {
+fn arrived(seed: u32, place: Slot, offer: Option<(u32, u32)>, since: u32) -> Result<Slot, Fail> {
     match (place, offer) {
         (_, None) => Ok(place),
         (Slot::Empty, Some((0, left))) => Ok(Slot::Computing { left, since }),
@@ -87,7 +90,7 @@ fn arrived(place: Slot, offer: Option<(u32, u32)>, since: u32) -> Result<Slot, F
             compute,
             since,
         }),
-        _ => Err(Fail::new("an arrival has to wait")),
+        _ => Err(Fail::new(format_args!("seed {seed}: an arrival has to wait"))),
     }
 }
 
@@ -125,17 +128,24 @@ fn ending(row: Option<u8>, places: &[Slot; 32], step: u32) -> Option<(u8, u32)> 
 }
 
 // No response is above the sum of the row's bounds.
-fn in_time(rt: &impl Abort, finished: Option<(u8, u32)>, limits: &[Limit; 32]) -> Result<(), Fail> {
+fn in_time(
+    rt: &impl Abort,
+    seed: u32,
+    finished: Option<(u8, u32)>,
+    limits: &[Limit; 32],
+) -> Result<(), Fail> {
     let Some((k, response)) = finished else {
         return Ok(());
     };
     let limit = limits.get(k as usize).ok_or("no such row")?;
-    assert!(rt; response <= limit.response, "response");
+    assert!(rt; response <= limit.response, "seed {seed}: response");
     Ok(())
 }
 
 // What a step leaves in the places, and that no job is too old.
 fn left<A, B, P: Feed>(
+    rt: &impl Abort,
+    seed: u32,
     run: &Run<A, B, P>,
     places: &[Slot; 32],
     memory: Option<u8>,
@@ -145,8 +155,11 @@ fn left<A, B, P: Feed>(
     for k in 0..32u8 {
         if let Some(place) = run.place(k) {
             let wanted = served(places[k as usize], memory == Some(k), processor == Some(k));
-            assert_eq!(place, wanted, "{}", k);
-            assert!(is_young(place, run.number(), &limits[k as usize]), "{}", k);
+            assert_eq!(rt; place, wanted, "seed {seed}: {k}");
+            assert!(rt;
+                is_young(place, run.number(), &limits[k as usize]),
+                "seed {seed}: {k}"
+            );
         }
     }
     Ok(())
@@ -195,10 +208,15 @@ fn is_young(place: Slot, number: u32, limit: &Limit) -> bool {
 }
 
 // In windows of several lengths no row holds a resource more often than it may.
-fn shares(rt: &impl Abort, answers: &[Answer], limits: &[Limit; 32]) -> Result<(), Fail> {
+fn shares(
+    rt: &impl Abort,
+    seed: u32,
+    answers: &[Answer],
+    limits: &[Limit; 32],
+) -> Result<(), Fail> {
     for length in [1, 2, 3, 7, 20, 33, 64, 150, 400, 1_000] {
-        share(rt, Phase::Memory, length, answers, limits).note(length)?;
-        share(rt, Phase::Processor, length, answers, limits).note(length)?;
+        share(rt, seed, Phase::Memory, length, answers, limits)?;
+        share(rt, seed, Phase::Processor, length, answers, limits)?;
     }
     Ok(())
 }
@@ -206,6 +224,7 @@ fn shares(rt: &impl Abort, answers: &[Answer], limits: &[Limit; 32]) -> Result<(
 // Goes through the windows of one length: one step enters at the front and one leaves at the back.
 fn share(
     rt: &impl Abort,
+    seed: u32,
     phase: Phase,
     length: usize,
     answers: &[Answer],
@@ -219,7 +238,10 @@ fn share(
         if let Some(k) = holder(phase, &answers[i]) {
             let limit = limits.get(k as usize).ok_or("no such row")?;
             let steps = enter(&mut held, k);
-            assert!(rt; steps <= limit.share(phase, length), "{}", k);
+            assert!(rt;
+                steps <= limit.share(phase, length),
+                "seed {seed}: {length}: {k}"
+            );
         }
     }
     Ok(())
