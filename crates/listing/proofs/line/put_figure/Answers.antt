@@ -8,6 +8,6 @@ returns c =
     in record {
       text =
           written_on (32 ∷ []) (decimal c.args.n) _ _ _ _ _ fits c.put-digits.ensures.text c.put-digits.ensures.behind
-          c.put-decimal.ensures.text;
+          c.put_decimal.ensures.text;
       behind = omega arith;
     }

@@ -9,10 +9,10 @@ pub returns : goal.returns
 returns c =
     let label = label_text c.args.label
     in let named =
-    written_on (32 ∷ []) label _ _ _ _ _ (omega arith) c.put-name.ensures.text c.put-name.ensures.behind c.put-label.ensures.text
+    written_on (32 ∷ []) label _ _ _ _ _ (omega arith) c.put-name.ensures.text c.put-name.ensures.behind c.put_label.ensures.text
     in record {
       text =
-          written_on (two_digits c.args.number) (32 ∷ label) _ _ _ _ _ (omega arith) c.put-two-digits-space.ensures.text
-          c.put-two-digits-space.ensures.behind named;
+          written_on (two_digits c.args.number) (32 ∷ label) _ _ _ _ _ (omega arith) c.put_two_digits-space.ensures.text
+          c.put_two_digits-space.ensures.behind named;
       behind = omega arith;
     }

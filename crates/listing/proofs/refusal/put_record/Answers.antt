@@ -6,8 +6,8 @@ use Rattle.listing.specs.Words.{spelled}
 use Rattle.listing.specs.declared.word.Word.TheVariants.{Record}
 use Rattle.std.proofs.Common.{[], length, decimal, sym, ap, arith}
 
-pub put-decimal-requires : goal.put-decimal-requires
-put-decimal-requires c =
+pub put_decimal-requires : goal.put_decimal-requires
+put_decimal-requires c =
     let short = length-word c.in-Some.number (omega arith)
     in omega arith
 
@@ -17,8 +17,8 @@ returns-in-Some c =
     in let is = ap record_text (sym c.in-Some.is)
     in record {
       text =
-          written_as _ _ c.args.out.now _ c.args.at (written_on (spelled Record) (decimal c.in-Some.number) _ _ _ _ _ (omega arith) c.put-word-digits.ensures.text
-          c.put-word-digits.ensures.behind c.put-decimal.ensures.text) is;
+          written_as _ _ c.args.out.now _ c.args.at (written_on (spelled Record) (decimal c.in-Some.number) _ _ _ _ _ (omega arith) c.put_word-digits.ensures.text
+          c.put_word-digits.ensures.behind c.put_decimal.ensures.text) is;
       behind = omega (arith, ap length is);
       most = omega arith;
     }

@@ -7,11 +7,11 @@ use Rattle.listing.specs.Words.{spelled}
 use Rattle.listing.specs.declared.word.Word.TheVariants.{TurnedDown}
 use Rattle.std.proofs.Common.{[], ◌∷◌, ◌++◌, length, decimal, ap, arith}
 
-pub put-decimal-record-requires : goal.put-decimal-record-requires
-put-decimal-record-requires c = let short = length-byte c.number.result (omega arith) in omega arith
+pub put_decimal-record-requires : goal.put_decimal-record-requires
+put_decimal-record-requires c = let short = length-byte c.number.result (omega arith) in omega arith
 
-pub put-record-end-requires : goal.put-record-end-requires
-put-record-end-requires c = let short = length-byte c.number.result (omega arith) in omega arith
+pub put_record-end-requires : goal.put_record-end-requires
+put_record-end-requires c = let short = length-byte c.number.result (omega arith) in omega arith
 
 pub put-requires : goal.put-requires
 put-requires c = let short = length-byte c.number.result (omega arith) in omega arith
@@ -20,15 +20,15 @@ put-requires c = let short = length-byte c.number.result (omega arith) in omega 
 pub returns : goal.returns
 returns c =
     let n = c.number.result
-    in let k = c.record-of.result
+    in let k = c.record_of.result
     in let short = length-byte n (omega arith)
-    in let e2 = written_on (record_text k) (10 ∷ []) _ _ _ _ _ (omega arith) c.put-record-end.ensures.text c.put-record-end.ensures.behind c.put.ensures.text
+    in let e2 = written_on (record_text k) (10 ∷ []) _ _ _ _ _ (omega arith) c.put_record-end.ensures.text c.put_record-end.ensures.behind c.put.ensures.text
     in let e1 =
-    written_on (decimal n) (record_text k ++ (10 ∷ [])) _ _ _ _ _ (omega arith) c.put-decimal-record.ensures.text c.put-decimal-record.ensures.behind e2
+    written_on (decimal n) (record_text k ++ (10 ∷ [])) _ _ _ _ _ (omega arith) c.put_decimal-record.ensures.text c.put_decimal-record.ensures.behind e2
     in let e0 =
-    written_on (spelled TurnedDown) (decimal n ++ (record_text k ++ (10 ∷ []))) c.args.out.now _ c.put.new.out 0 _ (omega arith) c.put-word-number.ensures.text
-    c.put-word-number.ensures.behind e1
-    in let is = fault_text-parts c.args.fault.now n k c.number.ensures c.record-of.ensures
+    written_on (spelled TurnedDown) (decimal n ++ (record_text k ++ (10 ∷ []))) c.args.out.now _ c.put.new.out 0 _ (omega arith) c.put_word-number.ensures.text
+    c.put_word-number.ensures.behind e1
+    in let is = fault_text-parts c.args.fault.now n k c.number.ensures c.record_of.ensures
     in record {
       text = written_as _ _ c.args.out.now _ 0 e0 is;
       behind = omega (arith, ap length is, length-refusal n k);

@@ -8,8 +8,8 @@ use Rattle.std.proofs.lemmas.Fmt.{decimal_digit, decimal_step}
 pub put-requires : goal.put-requires
 put-requires t c = omega (arith, length-digit c.args.n c.if-n-lt10.true)
 
-pub put-decimal-units-requires : goal.put-decimal-units-requires
-put-decimal-units-requires t c =
+pub put_decimal-units-requires : goal.put_decimal-units-requires
+put_decimal-units-requires t c =
     let small : c.args.n < 2 ^ 64 = omega arith
     in (omega arith, omega (arith, length-step c.args.n c.if-n-lt10.false small))
 
@@ -33,7 +33,7 @@ returns-else-n-lt10 t c =
     in let fits : c.args.at ≤ length c.args.out.now = omega arith
     in record {
       text =
-          written_on _ _ _ _ _ _ _ fits c.put-decimal-units.ensures.text c.put-decimal-units.ensures.behind c.put-else-n-lt10.ensures.text
+          written_on _ _ _ _ _ _ _ fits c.put_decimal-units.ensures.text c.put_decimal-units.ensures.behind c.put-else-n-lt10.ensures.text
           ∙ ap (written c.args.out.now c.args.at) (sym step);
       behind = omega (arith, length-step c.args.n c.if-n-lt10.false small);
     }

@@ -5,6 +5,6 @@ use Rattle.std.proofs.Common.{refl}
 pub returns : goal.returns
 returns c =
     record {
-      text = written-part c.args.out.now c.args.at c.args.text.now _ c.copy-from-slice.ensures.after;
+      text = written-part c.args.out.now c.args.at c.args.text.now _ c.copy_from_slice.ensures.after;
       behind = refl;
     }

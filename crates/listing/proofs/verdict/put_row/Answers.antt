@@ -18,9 +18,9 @@ returns-in-Some g c =
     in let within : b.0 + b.1 ≤ row.deadline = omega (arith, c.in-Some.ensures.within, ap (λ row. row.deadline) row_is)
     in let line = line_some r i b row c.in-Some.ensures.value row_is
     in record {
-      text = written_as _ _ c.args.out.now _ c.args.at c.put-line.ensures.text line;
-      behind = omega (arith, c.put-line.ensures.behind, ap length line);
-      most = omega (arith, c.put-line.ensures.behind, length-row i row b (c.rows.ensures.valid i here) within);
+      text = written_as _ _ c.args.out.now _ c.args.at c.put_line.ensures.text line;
+      behind = omega (arith, c.put_line.ensures.behind, ap length line);
+      most = omega (arith, c.put_line.ensures.behind, length-row i row b (c.rows.ensures.valid i here) within);
     }
 
 pub returns-in-None : goal.returns-in-None

@@ -19,8 +19,8 @@ loop-i-preserved g c =
     in let next = lines_next r i
     in (
       written_on (lines_of r i) (line_at r i) c.args.out.now _ _ 0 c.loop-i.at (omega arith) c.loop-i.invariant.0 (omega (arith, c.loop-i.invariant.1))
-          c.put-row-at.ensures.text
+          c.put_row-at.ensures.text
           ∙ ap (written c.args.out.now 0) (sym next),
-      omega (arith, c.loop-i.invariant.1, c.put-row-at.ensures.behind, ap length next, length-append (lines_of r i) (line_at r i)),
-      omega (arith, c.loop-i.invariant.2, c.put-row-at.ensures.most),
+      omega (arith, c.loop-i.invariant.1, c.put_row-at.ensures.behind, ap length next, length-append (lines_of r i) (line_at r i)),
+      omega (arith, c.loop-i.invariant.2, c.put_row-at.ensures.most),
     )
