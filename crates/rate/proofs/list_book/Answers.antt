@@ -15,7 +15,7 @@ returns-in-Ok c =
     in let loaded = c.in-Ok.ensures.value ∙ ap (λ rows. load_of (length rows) c.args.book.now) c.new-draft.ensures
     in record {
       shows =
-          subst (λ l. Shows l c.args.book.now c.args.out.now c.list-rating.new.out c.list-rating.result) loaded record {
+          subst (λ l. Shows l c.args.book.now c.args.out.now c.list_rating.new.out c.list_rating.result) loaded record {
             rating = x;
             rows =
                 ap rows_of (sym same) ∙ c.in-Ok.ensures.rows
@@ -25,10 +25,10 @@ returns-in-Ok c =
                 subst (λ d. is_accepted (verdict_in x) ≡ true → BoundsRead (rows_of d) by_memory_rank by_processor_rank (bounds_at x)) same
                 c.close-rating.ensures.bounds;
             late = subst (λ d. LateBy (rows_of d) by_memory_rank by_processor_rank (verdict_in x)) same c.close-rating.ensures.late;
-            value = c.list-rating.ensures.value;
-            buffer = c.list-rating.ensures.buffer;
+            value = c.list_rating.ensures.value;
+            buffer = c.list_rating.ensures.buffer;
           };
-      most = c.list-rating.ensures.most;
+      most = c.list_rating.ensures.most;
       long = search rules;
     }
 
@@ -37,8 +37,8 @@ returns-in-Err c =
     let loaded = c.in-Err.ensures.value ∙ ap (λ rows. load_of (length rows) c.args.book.now) c.new-draft.ensures
     in record {
       shows =
-          subst (λ l. Shows l c.args.book.now c.args.out.now c.list-fault.new.out c.list-fault.result) loaded
-          (c.list-fault.ensures.value, c.list-fault.ensures.buffer);
-      most = c.list-fault.ensures.most;
+          subst (λ l. Shows l c.args.book.now c.args.out.now c.list_fault.new.out c.list_fault.result) loaded
+          (c.list_fault.ensures.value, c.list_fault.ensures.buffer);
+      most = c.list_fault.ensures.most;
       long = search rules;
     }
