@@ -1,6 +1,6 @@
 -- That what a journal notes of a step, from its answer and the places, is what the step did.
 use Rattle.std.proofs.Common.{◌≡◌, ℕ, ◌+◌, ◌-◌, ◌<◌, max, Bool, true, false, cond, ◌&&◌, ◌||◌, eqb, List, [], ◌∷◌, length, is_some, Some, None, Option, unwrap_or, sym, refl, ap, ◌∙◌, subst, inl, inr, arith}
-use Rattle.std.proofs.lemmas.Bool.{both_ways, cases_Bool, eq-eqb, eqb-true}
+use Rattle.std.proofs.lemmas.Bool.{both_ways, cases_Bool, eqb-true}
 use Rattle.feeds.specs.Meanings.{View}
 use Rattle.schedule.specs.Places.{admitted, is_loading, job, moved, names, takes}
 use Rattle.schedule.specs.declared.place.Slot.{Slot}

@@ -1,8 +1,7 @@
 -- No time that a journal shows is above its bound, where the guarantee holds.
-use Rattle.std.proofs.Common.{◌≡◌, ℕ, ◌+◌, ◌-◌, ◌*◌, ◌<◌, ◌≤◌, max, Bool, true, false, cond, eqb, List, [], ◌∷◌, length, Some, None, Option, unwrap_or, sym, refl, ap, ◌∙◌, subst, inl, inr, mul-zero, arith}
+use Rattle.std.proofs.Common.{◌≡◌, ℕ, ◌+◌, ◌-◌, ◌*◌, ◌<◌, ◌≤◌, Bool, true, false, cond, eqb, [], ◌∷◌, length, Some, None, Option, unwrap_or, sym, refl, subst, inl, inr, mul-zero, arith}
 use native.Mathlib.Nat.{div-eq_of_lt}
 use Rattle.std.proofs.lemmas.Bool.{both_ways, cases_Bool, cases_lt, cond_both}
-use Rattle.rows.specs.Drafts.{rows_of}
 use Rattle.rows.proofs.RowLists.{rows-valid}
 use Rattle.rating.specs.Bounds.{is_accepted, row_of}
 use Rattle.rating.specs.Quotients.{ceil}
@@ -19,7 +18,7 @@ use Rattle.board.specs.Runs.{Along, New, Stepped, memory_ranking, offered, place
 use Rattle.board.specs.declared.run.Answer.{Answer}
 use Rattle.board.specs.declared.run.Run.{Run}
 use Rattle.board.proofs.Rankings.{guarantee_stands}
-use Rattle.simulate.specs.Counts.{InBounds, KeepsBounds, Simulated, Tells, loaded_in, tally_at, told}
+use Rattle.simulate.specs.Counts.{InBounds, KeepsBounds, Simulated, Tells, loaded_in, told}
 use Rattle.simulate.specs.Tallies.{response_of}
 use Rattle.simulate.specs.declared.journal.Journal.{Journal}
 use Rattle.simulate.proofs.Entries.{ending, responds}

@@ -1,10 +1,10 @@
 -- A step that is taken into a journal.
-use Rattle.std.proofs.Common.{◌≡◌, ℕ, suc, ◌+◌, ◌-◌, ◌*◌, ◌/◌, ◌%◌, ◌<◌, ◌≤◌, Bool, true, false, cond, ◌≢◌, List, ◌∷◌, length, get_or, set, is_some, sym, refl, ap, ◌∙◌, subst, ⊎_elim, mul-suc, arith, get_or-set_other, get_or-set_same, below_more}
+use Rattle.std.proofs.Common.{◌≡◌, ℕ, suc, ◌+◌, ◌-◌, ◌*◌, ◌/◌, ◌%◌, ◌<◌, ◌≤◌, Bool, true, false, ◌≢◌, List, ◌∷◌, length, get_or, set, is_some, sym, ap, ◌∙◌, subst, ⊎_elim, mul-suc, arith, get_or-set_other, get_or-set_same, below_more}
 use native.Mathlib.Nat.{mod-add-div'}
 use Rattle.std.proofs.lemmas.Bool.{cases_lt}
 use Rattle.feeds.specs.Meanings.{View}
 use Rattle.schedule.specs.Places.{names, takes}
-use Rattle.board.specs.Chains.{Reached, stepped}
+use Rattle.board.specs.Chains.{stepped}
 use Rattle.board.specs.Runs.{Along, Stepped, memory_ranking, offered, place, processor_ranking, rows_in}
 use Rattle.board.specs.declared.run.Answer.{Answer}
 use Rattle.board.specs.declared.run.Run.{Run}
@@ -13,7 +13,7 @@ use Rattle.rating.specs.Ranked.{ranked}
 use Rattle.rating.specs.Ratings.{draft_in, ranking_in}
 use Rattle.rating.specs.declared.rating.Rating.{Rating}
 use Rattle.rating.specs.declared.verdict.Phase.TheVariants.{Memory, Processor}
-use Rattle.simulate.specs.Counts.{Fair, Noted, Simulated, Tells, counted, drawn, tally_at, told}
+use Rattle.simulate.specs.Counts.{Fair, Noted, Simulated, Tells, counted, tally_at}
 use Rattle.simulate.specs.Tallies.{AtMost, is_free, noted, one, response_of}
 use Rattle.simulate.specs.Timelines.{answers_in, joined}
 use Rattle.simulate.specs.declared.journal.Journal.{Journal}

@@ -1,4 +1,4 @@
-use Rattle.std.specs.Prelude.{ℕ, cond, List, [], ◌∷◌, ◌++◌, length, take, nat_lt}
+use Rattle.std.specs.Prelude.{cond, List, [], ◌∷◌, ◌++◌, length, take, nat_lt}
 use Rattle.board.specs.declared.run.Answer.{Answer}
 use Rattle.simulate.specs.declared.timeline.Timeline.{Timeline}
 

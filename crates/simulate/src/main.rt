@@ -21,6 +21,7 @@ use rows::draft::Draft;
 use rows::fault::LoadFault;
 use std::fs::File;
 use std::io::{Read, Write};
+use std::process::ExitCode;
 use std::{fs, io};
 
 mod beginning;
@@ -41,12 +42,15 @@ const BOOK_BYTES: u64 = 65_520;
 // A run of more steps tells on standard error how far it is.
 const LONG: u32 = 1_000_000;
 
-fn main(rt: HostRuntime) -> Result<(), Stop> {
-    let done = work(&rt);
-    if let Err(stop) = &done {
-        let _ = eprint!(rt; "{stop}");
+// Tells on standard error why it ends, if it fails, and ends with status 1 then.
+fn main(rt: HostRuntime) -> ExitCode {
+    match work(&rt) {
+        Ok(()) => ExitCode::SUCCESS,
+        Err(stop) => {
+            let _ = eprint!(rt; "{stop}");
+            ExitCode::FAILURE
+        }
     }
-    done
 }
 
 // Reads what the arguments name, and simulates it.

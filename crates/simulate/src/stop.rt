@@ -2,7 +2,7 @@ ghost use Rattle.simulate.specs.Requests.{record_in, refusal_text};
 ghost use Rattle.std.specs.Prelude.{◌≡◌, IfOk, string_bytes};
 
 use lists::records::fault::{BadListRecord, CheckFault, ListFault};
-use std::alloc::{AllocError, AllocFailed, Global};
+use std::alloc::{AllocError, Global};
 use std::{fmt, io};
 
 // Why the program ends with status 1.

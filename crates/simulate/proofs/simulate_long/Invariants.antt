@@ -1,4 +1,4 @@
-use Rattle.std.proofs.Common.{◌≡◌, ◌+◌, ◌-◌, ◌*◌, ◌/◌, ◌%◌, min}
+use Rattle.std.proofs.Common.{◌-◌, ◌*◌, ◌/◌}
 use Rattle.simulate.specs.Counts.{Fair, Simulated}
 use Rattle.simulate.proofs.simulate_long.Given as goal
 

@@ -10,5 +10,5 @@ loop-k-preserved g c =
     let within : c.loop-k.k < length c.loop-k.tallies = omega arith in
     let next =
     mapped_more (λ j x. noted j (get_or c.args.free.now j false) c.args.answer.now (place c.args.run.now j) x) c.args.tallies.now
-    c.loop-k.tallies unmarked c.loop-k.k c.noted-row.result within c.noted-row.ensures inv.1 inv.2 in
+    c.loop-k.tallies unmarked c.loop-k.k c.noted_row.result within c.noted_row.ensures inv.1 inv.2 in
     (simp length-set inv.0, next.0, next.1)

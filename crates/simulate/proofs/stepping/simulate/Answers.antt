@@ -9,7 +9,7 @@ loop-step-preserved g c =
     let n = c.in-Ok.ensures.done in (
       omega (arith, c.loop-step.invariant.0, n.stepped.number),
       c.in-Ok.ensures.fair,
-      λ r t. tells_on g.P.Pledge.view r c.loop-step.run c.step-once.new.run c.loop-step.journal c.step-once.new.journal n (c.loop-step.invariant.2 r t),
+      λ r t. tells_on g.P.Pledge.view r c.loop-step.run c.step_once.new.run c.loop-step.journal c.step_once.new.journal n (c.loop-step.invariant.2 r t),
     )
 
 pub returns-after-loop-step : goal.returns-after-loop-step
@@ -24,11 +24,11 @@ returns-after-loop-step g c =
       fair = c.loop-step.invariant.1;
     }
 
-pub returns-in-default : goal.returns-in-default
-returns-in-default g c =
-    let done : Simulated g.P.Pledge.view c.args.steps c.args.run.now c.args.journal.now c.step-once.new.run c.step-once.new.journal = search rules in
+pub returns-in_default : goal.returns-in_default
+returns-in_default g c =
+    let done : Simulated g.P.Pledge.view c.args.steps c.args.run.now c.args.journal.now c.step_once.new.run c.step_once.new.journal = search rules in
     record {
       done = done;
-      kept = keeps-bounds g.P.Pledge.view c.args.steps c.args.run.now c.step-once.new.run c.args.journal.now c.step-once.new.journal done;
+      kept = keeps-bounds g.P.Pledge.view c.args.steps c.args.run.now c.step_once.new.run c.args.journal.now c.step_once.new.journal done;
       fair = search rules;
     }

@@ -4,8 +4,8 @@ use Rattle.simulate.proofs.stepping.step_once.Goals as goal
 pub returns : goal.returns
 returns g c =
     let done =
-    noted_step g.P.Pledge.view c.args.run.now c.step.new.self c.args.journal.now c.note.new.self c.in-ok-answer.answer
-    c.free-places-free.result c.in-ok-answer.ensures.1 c.free-places-free.ensures c.note.ensures.rows c.note.ensures.others
+    noted_step g.P.Pledge.view c.args.run.now c.step.new.self c.args.journal.now c.note.new.self c.in_ok-answer.answer
+    c.free_places-free.result c.in_ok-answer.ensures.1 c.free_places-free.ensures c.note.ensures.rows c.note.ensures.others
     c.note.ensures.line in
     record {
       done = done;

@@ -7,4 +7,4 @@ pub returns : goal.returns
 unfolding header_text
 returns g c =
     then3 (string_bytes c.args.text.now) (codes "no label") (in_turn (head_in c.args.rating.now c.args.journal.now) columns) (10 ∷ [])
-    c.in-ok-put-text.ensures c.in-ok-put-heads.ensures c.in-ok-put-byte.ensures
+    c.in_ok-put_text.ensures c.in_ok-put_heads.ensures c.in_ok-put_byte.ensures

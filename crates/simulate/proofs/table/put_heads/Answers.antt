@@ -7,4 +7,4 @@ use Rattle.simulate.proofs.table.put_heads.Goals as goal
 pub loop-column-preserved : goal.loop-column-preserved
 loop-column-preserved g c =
     in_turn-more (head_in c.args.rating.now c.args.journal.now) (string_bytes c.args.text.now) columns c.loop-column.column-index Admitted (omega arith)
-    c.loop-column.invariant c.in-ok-put-head.ensures
+    c.loop-column.invariant c.in_ok-put_head.ensures

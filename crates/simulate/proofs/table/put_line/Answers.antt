@@ -7,5 +7,5 @@ pub returns : goal.returns
 unfolding line_of
 returns c =
     then3 (string_bytes c.args.text.now) (name_of c.args.phase) (map (λ a. letter_of (holder_of c.args.phase a)) c.args.answers.now) (10 ∷ [])
-    (c.in-ok-put-text.ensures ∙ ap (λ z. string_bytes c.args.text.now ++ z) c.name.ensures) c.in-ok-put-letters.ensures
-    c.in-ok-put-byte.ensures
+    (c.in_ok-put_text.ensures ∙ ap (λ z. string_bytes c.args.text.now ++ z) c.name.ensures) c.in_ok-put_letters.ensures
+    c.in_ok-put_byte.ensures

@@ -13,6 +13,6 @@ unfolding row_text
 returns g c =
     then5 (string_bytes c.args.text.now) (two_digits c.args.k) (codes "  ") (label_text (row_of (rows_of (draft_in c.args.rating.now)) c.args.k).label)
     (in_turn (cell_in c.args.rating.now c.args.journal.now c.args.k) columns) (10 ∷ [])
-    c.in-ok-put-two-digits.ensures c.in-ok-put-text.ensures
-    (c.in-ok-put-label.ensures ∙ ap (λ rows. string_bytes c.put-text.new.text ++ label_text (row_of rows c.args.k).label) c.rows.ensures.value) c.in-ok-put-cells.ensures
-    c.in-ok-put-byte.ensures
+    c.in_ok-put_two_digits.ensures c.in_ok-put_text.ensures
+    (c.in_ok-put_label.ensures ∙ ap (λ rows. string_bytes c.put_text.new.text ++ label_text (row_of rows c.args.k).label) c.rows.ensures.value) c.in_ok-put_cells.ensures
+    c.in_ok-put_byte.ensures

@@ -5,4 +5,4 @@ use Rattle.simulate.proofs.table.put_rows.Goals as goal
 
 pub loop-k-preserved : goal.loop-k-preserved
 loop-k-preserved g c =
-    up_to_more (row_text c.args.rating.now c.args.journal.now) (string_bytes c.args.text.now) c.loop-k.k c.loop-k.invariant c.in-ok-put-row.ensures
+    up_to_more (row_text c.args.rating.now c.args.journal.now) (string_bytes c.args.text.now) c.loop-k.k c.loop-k.invariant c.in_ok-put_row.ensures

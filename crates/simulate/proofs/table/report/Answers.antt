@@ -13,8 +13,8 @@ returns g c =
     let y = c.args.journal.now in
     then6 (10 ∷ []) (header_text r y) (up_to (row_text r y) (length (rows_of (draft_in r)))) (10 ∷ []) (line_of Memory (answers_in y.timeline))
     (line_of Processor (answers_in y.timeline)) (note_of (verdict_in r))
-    (c.in-ok-put-header.ensures ∙ ap (λ z. z ++ header_text r y) c.in-ok-text.ensures.ok)
-    c.in-ok-put-rows.ensures c.in-ok-put-byte.ensures
-    (c.in-ok-put-line.ensures ∙ ap (λ xs. string_bytes c.put-byte.new.text ++ line_of Memory xs) c.answers.ensures.value)
-    (c.in-ok-put-line-2.ensures ∙ ap (λ xs. string_bytes c.put-line.new.text ++ line_of Processor xs) c.answers-2.ensures.value)
-    (c.in-ok-put-text.ensures ∙ ap (λ xs. string_bytes c.put-line-2.new.text ++ xs) (c.note.ensures ∙ ap note_of c.verdict.ensures.value))
+    (c.in_ok-put_header.ensures ∙ ap (λ z. z ++ header_text r y) c.in_ok-text.ensures.ok)
+    c.in_ok-put_rows.ensures c.in_ok-put_byte.ensures
+    (c.in_ok-put_line.ensures ∙ ap (λ xs. string_bytes c.put_byte.new.text ++ line_of Memory xs) c.answers.ensures.value)
+    (c.in_ok-put_line-2.ensures ∙ ap (λ xs. string_bytes c.put_line.new.text ++ line_of Processor xs) c.answers-2.ensures.value)
+    (c.in_ok-put_text.ensures ∙ ap (λ xs. string_bytes c.put_line-2.new.text ++ xs) (c.note.ensures ∙ ap note_of c.verdict.ensures.value))

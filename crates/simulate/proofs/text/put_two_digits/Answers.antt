@@ -3,4 +3,4 @@ use Rattle.simulate.proofs.Texts.{then}
 use Rattle.simulate.proofs.text.put_two_digits.Goals as goal
 
 pub returns : goal.returns
-returns c = then _ (_ ∷ []) (_ ∷ []) c.in-ok-put-byte.ensures c.in-ok-put-byte-2.ensures
+returns c = then _ (_ ∷ []) (_ ∷ []) c.in_ok-put_byte.ensures c.in_ok-put_byte-2.ensures

@@ -1,4 +1,4 @@
-use Rattle.std.proofs.Common.{◌≡◌, ◌<◌, ◌≤◌, true, ltb, length, arith}
+use Rattle.std.proofs.Common.{◌≡◌, ◌<◌, true, ltb, length, arith}
 use Rattle.std.proofs.lemmas.List.{length-take-le, take_more_set}
 use Rattle.std.proofs.lemmas.Bool.{lt-ltb}
 use Rattle.simulate.specs.Timelines.{answers_in}
