@@ -5,7 +5,7 @@ use Rattle.std.proofs.lemmas.Bool.Decides.{nat_tests}
 use Rattle.encoding.specs.Records.{LoadsAs, bytes_of, record_of}
 use Rattle.encoding.proofs.Words.{row_back}
 use Rattle.rows.proofs.Scans.{loads}
-use Rattle.rows.specs.Books.{Loads, first_rows-bytes_of, load_of, meets, read_at, row_at, sound, taken}
+use Rattle.rows.specs.Books.{Loads, first_rows, load_of, meets, read_at, row_at, sound}
 use Rattle.rows.specs.Drafts.{EachValid}
 use Rattle.rows.specs.Rows.{Valid, blank, checked}
 use Rattle.rows.specs.declared.fault.BookFault.TheVariants.{Length, Record}
@@ -53,8 +53,8 @@ pub read_valid : (r : Row) → Valid r → read_at (record_of r) 0 ≡ Ok r
 read_valid r v = ap (λ x. sound (checked x) true x) (back r v) ∙ ap (λ o. sound o true r) (checked-valid r v)
 
 -- the rows that stand in the records
-pub first_rows-bytes_of : (rows : List Row) → EachValid rows → (n : ℕ) → n ≤ length rows → first_rows-bytes_of (bytes_of rows) n ≡ take n rows
-unfolding first_rows-bytes_of
+pub first_rows-bytes_of : (rows : List Row) → EachValid rows → (n : ℕ) → n ≤ length rows → first_rows (bytes_of rows) n ≡ take n rows
+unfolding first_rows
 first_rows-bytes_of rows v zero h = refl
 first_rows-bytes_of rows v (suc n) h =
     let here : n < length rows = omega arith
@@ -82,7 +82,7 @@ loads-back rows few v =
           let j' : j < length rows = omega arith
           in let room : ltb (0 + j) 32 ≡ true = lt-ltb (0 + j) 32 (omega arith)
           in rw (read_in rows j j', read_valid (get_or rows j blank) (v j j'), room) refl);
-      exact = ap (first_rows-bytes_of (bytes_of rows)) n ∙ first_rows-bytes_of rows v (length rows) (omega arith) ∙ take_all (length rows) rows (omega arith);
+      exact = ap (first_rows (bytes_of rows)) n ∙ first_rows-bytes_of rows v (length rows) (omega arith) ∙ take_all (length rows) rows (omega arith);
     }
 
 -- one record more

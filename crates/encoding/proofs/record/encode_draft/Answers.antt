@@ -12,8 +12,8 @@ loop-row-init c = c.new-book.ensures.items ∙ bytes_none
 
 pub loop-row-preserved : goal.loop-row-preserved
 loop-row-preserved c =
-    pushed _ c.loop-row.invariant c.in-ok-extend-from-slice.was c.extend-from-slice.ensures.items
-    ∙ ap (λ ws. bytes_of (take c.loop-row.row-index c.rows-row-items.result.now) ++ ws) c.encode-row.ensures.value
+    pushed _ c.loop-row.invariant c.in_ok-extend_from_slice.was c.extend_from_slice.ensures.items
+    ∙ ap (λ ws. bytes_of (take c.loop-row.row-index c.rows-row-items.result.now) ++ ws) c.encode_row.ensures.value
     ∙ bytes_more c.rows-row-items.result.now c.loop-row.row-index (omega arith)
 
 pub returns : goal.returns

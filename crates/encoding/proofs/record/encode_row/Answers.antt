@@ -6,10 +6,10 @@ use Rattle.encoding.proofs.record.encode_row.Goals as goal
 
 pub returns : goal.returns
 returns c =
-    let m : c.copy-from-slice.new.self ≡ word_bytes c.args.row.memory = c.copy-from-slice.ensures.after ∙ c.to-be-bytes.ensures
-    in let p : c.copy-from-slice-2.new.self ≡ word_bytes c.args.row.compute = c.copy-from-slice-2.ensures.after ∙ c.to-be-bytes-2.ensures
-    in let d : c.copy-from-slice-3.new.self ≡ word_bytes c.args.row.deadline = c.copy-from-slice-3.ensures.after ∙ c.to-be-bytes-3.ensures
-    in let t : c.copy-from-slice-4.new.self ≡ word_bytes c.args.row.period = c.copy-from-slice-4.ensures.after ∙ c.to-be-bytes-4.ensures
+    let m : c.copy_from_slice.new.self ≡ word_bytes c.args.row.memory = c.copy_from_slice.ensures.after ∙ c.to_be_bytes.ensures
+    in let p : c.copy_from_slice-2.new.self ≡ word_bytes c.args.row.compute = c.copy_from_slice-2.ensures.after ∙ c.to_be_bytes-2.ensures
+    in let d : c.copy_from_slice-3.new.self ≡ word_bytes c.args.row.deadline = c.copy_from_slice-3.ensures.after ∙ c.to_be_bytes-3.ensures
+    in let t : c.copy_from_slice-4.new.self ≡ word_bytes c.args.row.period = c.copy_from_slice-4.ensures.after ∙ c.to_be_bytes-4.ensures
     in record {
       value = simp (m, p, d, t);
       back = simp (m, p, d, t) (row_back c.args.row (omega arith) (omega arith) (omega arith) (omega arith));
