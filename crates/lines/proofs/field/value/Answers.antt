@@ -2,8 +2,8 @@ use Rattle.std.proofs.Common.{◌+◌, ◌-◌, ◌*◌, get_or, sym, ◌∙◌,
 use Rattle.lines.proofs.Fields.{digits_on, read_more, value-fits, value-large}
 use Rattle.lines.proofs.field.value.Goals as goal
 
-pub overflow-sub-next : goal.overflow-sub-next
-overflow-sub-next c = (digits_on c.args.digits.now c.loop-digit.digit-index c.loop-digit-test.true c.loop-digit.invariant.2).0
+pub overflow_sub-next : goal.overflow_sub-next
+overflow_sub-next c = (digits_on c.args.digits.now c.loop-digit.digit-index c.loop-digit-test.true c.loop-digit.invariant.2).0
 
 pub returns-then-next-gt4294967295 : goal.returns-then-next-gt4294967295
 returns-then-next-gt4294967295 c =

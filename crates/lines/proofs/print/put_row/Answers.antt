@@ -15,23 +15,23 @@ returns c =
     in let d = column 7 r.deadline ++ t
     in let n = column 7 r.compute ++ d
     in let m = column 10 r.memory ++ n
-    in let end = vec_items c.put-column-6.new.out
+    in let end = vec_items c.put_column-6.new.out
     in let e5 =
-    put_on (column 11 r.memory_rank) q (vec_items c.put-column-4.new.out) (vec_items c.put-column-5.new.out) end
-    c.in-ok-put-column-5.ensures c.in-ok-put-column-6.ensures
+    put_on (column 11 r.memory_rank) q (vec_items c.put_column-4.new.out) (vec_items c.put_column-5.new.out) end
+    c.in_ok-put_column-5.ensures c.in_ok-put_column-6.ensures
     in let e4 =
-    put_on (column 7 r.period) p (vec_items c.put-column-3.new.out) (vec_items c.put-column-4.new.out) end
-    c.in-ok-put-column-4.ensures e5
+    put_on (column 7 r.period) p (vec_items c.put_column-3.new.out) (vec_items c.put_column-4.new.out) end
+    c.in_ok-put_column-4.ensures e5
     in let e3 =
-    put_on (column 7 r.deadline) t (vec_items c.put-column-2.new.out) (vec_items c.put-column-3.new.out) end
-    c.in-ok-put-column-3.ensures e4
+    put_on (column 7 r.deadline) t (vec_items c.put_column-2.new.out) (vec_items c.put_column-3.new.out) end
+    c.in_ok-put_column-3.ensures e4
     in let e2 =
-    put_on (column 7 r.compute) d (vec_items c.put-column.new.out) (vec_items c.put-column-2.new.out) end
-    c.in-ok-put-column-2.ensures e3
+    put_on (column 7 r.compute) d (vec_items c.put_column.new.out) (vec_items c.put_column-2.new.out) end
+    c.in_ok-put_column-2.ensures e3
     in let e1 =
-    put_on (column 10 r.memory) n (vec_items c.extend-from-slice.new.self) (vec_items c.put-column.new.out) end
-    c.in-ok-put-column.ensures e2
+    put_on (column 10 r.memory) n (vec_items c.extend_from_slice.new.self) (vec_items c.put_column.new.out) end
+    c.in_ok-put_column.ensures e2
     in record {
-      text = put_on (label_text r.label) m (vec_items c.args.out.now) (vec_items c.extend-from-slice.new.self) end c.in-ok-extend-from-slice.ensures.items e1;
-      back = let h = c.well-formed in parses_back r (omega (arith, h)) (omega (arith, h)) (omega (arith, h)) (omega (arith, h)) (omega (arith, h)) (omega (arith, h));
+      text = put_on (label_text r.label) m (vec_items c.args.out.now) (vec_items c.extend_from_slice.new.self) end c.in_ok-extend_from_slice.ensures.items e1;
+      back = let h = c.well_formed in parses_back r (omega (arith, h)) (omega (arith, h)) (omega (arith, h)) (omega (arith, h)) (omega (arith, h)) (omega (arith, h));
     }

@@ -6,5 +6,5 @@ use Rattle.lines.proofs.word.after_word.Goals as goal
 
 pub returns : goal.returns
 returns c =
-    take_rest c.from-word-rest.result.now c.front.result ∙ ap (λ n. drop n c.from-word-rest.result.now) c.front.ensures.value
-    ∙ ap (λ rest. drop (prefix_len (is_of false) rest) rest) c.from-word-rest.ensures
+    take_rest c.from_word-rest.result.now c.front.result ∙ ap (λ n. drop n c.from_word-rest.result.now) c.front.ensures.value
+    ∙ ap (λ rest. drop (prefix_len (is_of false) rest) rest) c.from_word-rest.ensures

@@ -5,11 +5,11 @@ use Rattle.lines.proofs.word.word.Goals as goal
 
 pub loop-passed-preserved : goal.loop-passed-preserved
 loop-passed-preserved c =
-    ap (λ rest. word_in rest (c.args.number - (c.loop-passed.-passed + 1))) c.after-word-rest.ensures
-    ∙ sym (word_on c.loop-passed.rest.now c.args.number c.loop-passed.-passed c.loop-passed-test.true)
+    ap (λ rest. word_in rest (c.args.number - (c.loop-passed._passed + 1))) c.after_word-rest.ensures
+    ∙ sym (word_on c.loop-passed.rest.now c.args.number c.loop-passed._passed c.loop-passed-test.true)
     ∙ c.loop-passed.invariant
 
 pub returns : goal.returns
 returns c =
-    c.first-word.ensures ∙ sym (word_here c.loop-passed.rest.now c.args.number c.loop-passed.-passed c.loop-passed-test.false)
+    c.first_word.ensures ∙ sym (word_here c.loop-passed.rest.now c.args.number c.loop-passed._passed c.loop-passed-test.false)
     ∙ c.loop-passed.invariant
