@@ -4,4 +4,4 @@ use Rattle.tables.proofs.split.line.Given as goal
 
 -- the line is sought in what stands behind the lines passed
 abbrev pub invariant-loop-passed : goal.invariant-loop-passed
-invariant-loop-passed l = line_in l.rest (l.number - l.-passed) ≡ line_in l.text l.number
+invariant-loop-passed l = line_in l.rest (l.number - l._passed) ≡ line_in l.text l.number

@@ -10,16 +10,16 @@ use Rattle.tables.proofs.write.write_table.Goals as goal
 
 pub loop-row-init : goal.loop-row-init
 loop-row-init c = (
-  c.in-ok-extend-from-slice.ensures.items ∙ ap (λ ws. ws ++ (header ++ 10 ∷ [])) c.new-table.ensures.items ∙ table_none,
+  c.in_ok-extend_from_slice.ensures.items ∙ ap (λ ws. ws ++ (header ++ 10 ∷ [])) c.new-table.ensures.items ∙ table_none,
   (λ i h. absurd (omega arith)),
 )
 
 pub loop-row-preserved : goal.loop-row-preserved
 loop-row-preserved c = (
-  table_put c.rows-row-items.result.now c.loop-row.row-index (vec_items c.loop-row.table) (vec_items c.put-row.new.out) (vec_items c.push.new.self)
-      c.loop-row-test.true c.loop-row.invariant.0 c.in-ok-put-row.ensures.text c.in-ok-push.ensures.items,
+  table_put c.rows-row-items.result.now c.loop-row.row-index (vec_items c.loop-row.table) (vec_items c.put_row.new.out) (vec_items c.push.new.self)
+      c.loop-row-test.true c.loop-row.invariant.0 c.in_ok-put_row.ensures.text c.in_ok-push.ensures.items,
   below_more (λ i. ParsesBack (get_or c.rows-row-items.result.now i blank)) c.loop-row.row-index c.loop-row.invariant.1
-      c.in-ok-put-row.ensures.back,
+      c.in_ok-put_row.ensures.back,
 )
 
 pub returns : goal.returns
