@@ -1,11 +1,10 @@
-use Rattle.std.proofs.Common.{◌≡◌, ℕ, zero, suc, ◌+◌, ◌-◌, ◌<◌, ◌≤◌, min, Bool, true, false, cond, ◌&&◌, eqb, ltb, leb, List, [], ◌∷◌, length, is_some, Some, None, Option, sym, refl, ap, ◌∙◌, subst, arith}
+use Rattle.std.proofs.Common.{◌≡◌, ℕ, zero, suc, ◌+◌, ◌-◌, ◌<◌, min, true, false, cond, ◌&&◌, eqb, ltb, leb, List, [], ◌∷◌, length, is_some, Some, None, Option, sym, refl, ap, ◌∙◌, subst}
 use Rattle.std.proofs.lemmas.Bool.{both_ways}
 use Rattle.std.specs.Option.{option_map}
-use Rattle.layers.specs.Gates.{GateTaken, gate_view, passed, spacing}
+use Rattle.layers.specs.Gates.{gate_view, passed, spacing}
 use Rattle.layers.specs.declared.gate.Gate.{Gate}
 use Rattle.lists.specs.ListRecords.{arrival_at, sound_count, sought, step_at}
 use Rattle.lists.specs.Lists.{cursor_of, due_of, figures_of, listing, rest_of}
-use Rattle.lists.specs.Places.{place_of}
 use Rattle.lists.specs.declared.list.List.{List as Listed}
 use Rattle.lists.specs.declared.list.places.Place.{Place}
 use Rattle.figures.specs.Passages.{Answers, NewPile, PileAdvanced, PileTaken}

@@ -1,4 +1,4 @@
-use Rattle.std.specs.Prelude.{◌≡◌, ℕ, zero, suc, ◌+◌, true, List, [], ◌∷◌, ◌++◌, length, is_some, Some, None, Option}
+use Rattle.std.specs.Prelude.{◌≡◌, ℕ, ◌+◌, true, List, [], ◌∷◌, ◌++◌, length, is_some, Some, None, Option}
 use Rattle.feeds.specs.Meanings.{Taken}
 use Rattle.layers.specs.Gates.{GateAdvanced, GateTaken, Spaced, gate_view, spacing}
 use Rattle.layers.specs.declared.gate.Gate.{Gate}

@@ -149,7 +149,7 @@ fn record_faults(rt: HostRuntime) -> Result<(), Fail> {
         (23, 0x7E, 0),
     ];
     for (place, byte, fault) in cases {
-        middle_record(&rt, heap, place, byte, fault).note(format_args!("{byte} at {place}"))?;
+        middle_record(&rt, heap, place, byte, fault)?;
     }
     Ok(())
 }
@@ -166,12 +166,12 @@ fn middle_record(
     let mut draft = filled(2)?;
     let answer = told(draft.load(&bytes));
     if fault == 0 {
-        assert_eq!(rt; answer, (0, None));
-        assert_eq!(rt; draft.count(), 5);
+        assert_eq!(rt; answer, (0, None), "{byte} at {place}");
+        assert_eq!(rt; draft.count(), 5, "{byte} at {place}");
         Ok(())
     } else {
-        assert_eq!(rt; answer, (fault, Some(1)));
-        assert!(rt; draft.rows() == filled(2)?.rows());
+        assert_eq!(rt; answer, (fault, Some(1)), "{byte} at {place}");
+        assert!(rt; draft.rows() == filled(2)?.rows(), "{byte} at {place}");
         Ok(())
     }
 }
