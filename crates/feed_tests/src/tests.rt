@@ -6,7 +6,7 @@ use std::process::Abort;
 use std::test::Fail;
 
 mod fits;
-mod lists;
+mod list_files;
 mod piles;
 mod settings;
 
