@@ -1,6 +1,7 @@
 #![tactic(auto)]
 
 use run::{Failed, make, show};
+use std::process::ExitCode;
 use std::{env, io};
 
 mod run;
@@ -30,13 +31,21 @@ fn asked(rt: &HostRuntime) -> io::Result<Option<Command>> {
 }
 
 // A filter between a text table and a book: `book make` reads the one and writes the other, `book show` the reverse.
-fn main(rt: HostRuntime) -> Result<(), Failed> {
-    match asked(&rt)? {
-        Some(Command::Make) => make(&rt),
-        Some(Command::Show) => show(&rt),
+fn work(rt: &HostRuntime) -> Result<(), Failed> {
+    match asked(rt)? {
+        Some(Command::Make) => make(rt),
+        Some(Command::Show) => show(rt),
         None => {
             eprintln!(rt; "usage: book make < TABLE > BOOK, or book show < BOOK > TABLE")?;
             Err(Failed)
         }
+    }
+}
+
+// Ends with status 1 where the filter stopped, of which it has told all that it could: no word more.
+fn main(rt: HostRuntime) -> ExitCode {
+    match work(&rt) {
+        Ok(()) => ExitCode::SUCCESS,
+        Err(_) => ExitCode::FAILURE,
     }
 }
