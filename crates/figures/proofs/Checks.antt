@@ -1,5 +1,7 @@
-use Rattle.std.proofs.Common.{◌≡◌, ℕ, zero, suc, ◌+◌, ◌<◌, Bool, true, false, not, ◌&&◌, ◌||◌, eqb, ltb, leb, List, [], ◌∷◌, length, get_or, is_some, Some, None, Option, unwrap_or, sym, refl, ap, subst, inl, inr, arith}
+use Rattle.std.proofs.Common.{◌≡◌, ℕ, zero, suc, ◌+◌, ◌<◌, Bool, true, false, not, ◌&&◌, ◌||◌, eqb, ltb, leb, List, length, is_some, Some, None, Option, unwrap_or, sym, refl, ap, subst, inl, inr, arith}
 use Rattle.std.proofs.lemmas.Bool.{and_parts, cases_eq, eqb-true, leb-true, ltb-true}
+use Rattle.std.specs.List.{list_all}
+use Rattle.figures.proofs.Entries.{each}
 use Rattle.rows.specs.declared.fault.RowFault.TheVariants.{CostAboveDeadline}
 use Rattle.rows.specs.declared.row.Row.{Row}
 use Rattle.rating.specs.Bounds.{ceiling_of, figure_at, memory_work, never, processor_work, row_of, work_of}
@@ -124,19 +126,10 @@ right f e =
       verdict = told f.rows (figure_at f.memory) (figure_at f.processor) f.verdict more.1;
     }
 
--- the test passes at every figure of a table
-abbrev every : List Figure → Bool
-every [] = true
-every (f ∷ fs) = is_right f && every fs
-
-each : (fs : List Figure) → every fs ≡ true → (i : ℕ) → i < length fs → Right (get_or fs i no_figure)
-each [] e i h = absurd (omega arith)
-each (f ∷ fs) e zero h = right f (and_parts (is_right f) (every fs) e).0
-each (f ∷ fs) e (suc i) h = each fs (and_parts (is_right f) (every fs) e).1 i (omega arith)
-
-computed : every figures ≡ true
+-- the test passes at every figure of the table
+computed : list_all is_right figures ≡ true
 unfolding first_solution keep sum_over up_to
 computed = refl
 
 pub figures-stand : FiguresStand
-figures-stand = record { each = each figures computed; refused = (CostAboveDeadline, (refl, refl)) }
+figures-stand = record { each = each is_right Right right no_figure figures computed; refused = (CostAboveDeadline, (refl, refl)) }

@@ -1,3 +1,4 @@
 pub mod Checks
+pub mod Entries
 pub mod Passing
 pub mod Piles

@@ -1,5 +1,7 @@
-use Rattle.std.proofs.Common.{◌≡◌, ℕ, zero, suc, ◌<◌, max, Bool, true, false, ◌&&◌, eqb, ltb, List, [], ◌∷◌, length, get_or, refl, ap, ◌∙◌, arith}
+use Rattle.std.proofs.Common.{◌≡◌, ℕ, max, Bool, true, false, ◌&&◌, eqb, ltb, List, [], ◌∷◌, refl, ap, ◌∙◌}
 use Rattle.std.proofs.lemmas.Bool.{and_parts, both_ways, eqb-true, ltb-true}
+use Rattle.std.specs.List.{list_all}
+use Rattle.figures.proofs.Entries.{each}
 use Rattle.layers.specs.Gates.{spacing}
 use Rattle.lists.specs.ListRecords.{checked_at, seek_from, sound_from}
 use Rattle.figures.specs.Passages.{Gates, GatesRight, Passage, PassageRight, taken_from}
@@ -57,19 +59,10 @@ right : (f : Pile) → is_right f ≡ true → PileRight f
 right (gates f) e = gates_right f e
 right (passage f) e = passage_right f e
 
--- the test passes at every figure of a table
-abbrev every : List Pile → Bool
-every [] = true
-every (f ∷ fs) = is_right f && every fs
-
-each : (fs : List Pile) → every fs ≡ true → (i : ℕ) → i < length fs → PileRight (get_or fs i no_pile)
-each [] e i h = absurd (omega arith)
-each (f ∷ fs) e zero h = right f (and_parts (is_right f) (every fs) e).0
-each (f ∷ fs) e (suc i) h = each fs (and_parts (is_right f) (every fs) e).1 i (omega arith)
-
-computed : every piles ≡ true
+-- the test passes at every figure of the table
+computed : list_all is_right piles ≡ true
 unfolding checked_at seek_from sound_from
 computed = refl
 
 pub piles-stand : PilesStand
-piles-stand = record { each = each piles computed }
+piles-stand = record { each = each is_right PileRight right no_pile piles computed }
