@@ -41,7 +41,7 @@ scan_on m n l bs i long h here left =
     ∙ left
 
 -- a record that is not taken in decides the book
-pub book_ends : (m n : ℕ) (bs : List ℕ) (i : ℕ) (fault : BadRecord) (y : BookFault) → length bs % 24 ≡ 0 → i < length bs / 24
+pub book_ends : (m n : ℕ) (bs : List ℕ) (i : ℕ) (fault : BadRecord RecordFault) (y : BookFault) → length bs % 24 ≡ 0 → i < length bs / 24
     → scanned n bs i (length bs / 24 - i) ≡ scanned m bs 0 (length bs / 24) → Err fault ≡ numbered i (record_at n bs i) → y ≡ Record fault → Err y ≡ book_of m bs
 book_ends m n bs i fault y whole h left here is =
     ap Err is ∙ ap (λ o. go_on o (scanned (n + 1) bs (i + 1) (length bs / 24 - (i + 1)))) here ∙ sym (scanned-step n bs i (length bs / 24) h) ∙ left

@@ -48,11 +48,11 @@ taken (Ok _) (Ok _) = Ok tt
 abbrev pub record_at : ℕ → List ℕ → ℕ → Result Unit RecordFault
 record_at n bs number = taken (room_for n) (read_at bs (24 * number))
 
-abbrev pub numbered : ℕ → Result Unit RecordFault → Result Unit BadRecord
+abbrev pub numbered : ℕ → Result Unit RecordFault → Result Unit (BadRecord RecordFault)
 numbered i (Ok _) = Ok tt
 numbered i (Err fault) = Err record { number = i; fault = fault }
 
-abbrev pub go_on : Result Unit BadRecord → Result Unit BookFault → Result Unit BookFault
+abbrev pub go_on : Result Unit (BadRecord RecordFault) → Result Unit BookFault → Result Unit BookFault
 go_on (Ok _) rest = rest
 go_on (Err fault) rest = Err (Record fault)
 
@@ -84,7 +84,7 @@ first_rows bs (suc n) = first_rows bs n ++ row_at bs (24 * n) ∷ []
 abbrev pub meets : ℕ → List ℕ → ℕ → Result Unit RecordFault
 meets n bs i = record_at (n + i) bs i
 
-pub record FirstFault (n : ℕ) (bs : List ℕ) (fault : BadRecord) : Type 0 where
+pub record FirstFault (n : ℕ) (bs : List ℕ) (fault : BadRecord RecordFault) : Type 0 where
   pub whole : length bs % 24 ≡ 0
   pub within : fault.number < length bs / 24
   pub here : meets n bs fault.number ≡ Err fault.fault

@@ -1,4 +1,5 @@
 pub mod Faults
+pub mod Refusals
 pub mod Rows
 pub mod Tables
 pub mod Drafts

@@ -37,7 +37,7 @@ impl Draft {
     }
 
     // Adds one record, and tells its number with its fault.
-    fn take_numbered(&mut self, bytes: &[u8], number: usize) -> Result<(), BadRecord>
+    fn take_numbered(&mut self, bytes: &[u8], number: usize) -> Result<(), BadRecord<RecordFault>>
         requires { 24 * number + 24 ≤ length bytes.now }
         ensures value { result ≡ numbered number (record_at (length (rows_of self.old)) bytes.now number) }
         ensures rows { rows_of self.new ≡ (if is_ok result then rows_of self.old ++ row_at bytes.now (24 * number) ∷ [] else rows_of self.old) }

@@ -3,7 +3,10 @@ ghost use Rattle.rows.specs.declared.fault.BookFault.TheVariants.{Record as InRe
 ghost use Rattle.rows.specs.declared.fault.EditFault.TheVariants.{Draft as InDraft, Row as InRow};
 ghost use Rattle.rows.specs.declared.fault.LoadFault.TheVariants.{Book as InBook};
 ghost use Rattle.rows.specs.declared.fault.RecordFault.TheVariants.{Draft as NoRoom, Row as OfRow};
-ghost use Rattle.std.specs.Prelude.{◌≡◌};
+ghost use Rattle.rows.specs.Refusals.{refusal_of, refusal_text};
+ghost use Rattle.std.specs.Prelude.{◌≡◌, Some};
+
+use std::fmt;
 
 // What is wrong with a row, in the order of checking.
 #[derive(Clone, Copy, PartialEq, Eq, Debug)]
@@ -45,11 +48,11 @@ pub enum RecordFault {
     Reserved,
 }
 
-// A record's fault with the record's number, counted from 0.
+// The fault of a record of a file, whatever faults the file's records have, with the record's number, counted from 0.
 #[derive(Clone, Copy, PartialEq, Eq, Debug)]
-pub struct BadRecord {
+pub struct BadRecord<F> {
     pub number: usize,
-    pub fault: RecordFault,
+    pub fault: F,
 }
 
 // What is wrong with a book.
@@ -57,13 +60,20 @@ pub struct BadRecord {
 pub enum BookFault {
     // The length is not a multiple of a record's.
     Length,
-    Record(BadRecord),
+    Record(BadRecord<RecordFault>),
 }
 
 // Why a load is refused: the case names the kind of file.
 #[derive(Clone, Copy, PartialEq, Eq, Debug)]
 pub enum LoadFault {
     Book(BookFault),
+}
+
+// What is told of a file that is turned down: the fault's number and, if it lies in a record, the record's.
+#[derive(Clone, Copy, PartialEq, Eq, Debug)]
+pub struct Refusal {
+    pub number: u8,
+    pub record: Option<usize>,
 }
 
 impl RowFault {
@@ -167,10 +177,10 @@ impl From<RowFault> for RecordFault {
     }
 }
 
-impl From<BadRecord> for BookFault {
+impl From<BadRecord<RecordFault>> for BookFault {
     ghost from_gives = { λ bad fault. fault ≡ InRecord bad };
 
-    fn from(value: BadRecord) -> BookFault {
+    fn from(value: BadRecord<RecordFault>) -> BookFault {
         BookFault::Record(value)
     }
 }
@@ -180,5 +190,33 @@ impl From<BookFault> for LoadFault {
 
     fn from(value: BookFault) -> LoadFault {
         LoadFault::Book(value)
+    }
+}
+
+impl From<LoadFault> for Refusal {
+    ghost from_gives = { λ fault refusal. refusal ≡ refusal_of fault };
+
+    fn from(value: LoadFault) -> Refusal {
+        let LoadFault::Book(fault) = value;
+        let record = match fault {
+            BookFault::Length => None,
+            BookFault::Record(bad) => Some(bad.number),
+        };
+        Refusal {
+            number: fault.number(),
+            record,
+        }
+    }
+}
+
+impl fmt::Display for Refusal {
+    ghost output = { λ refusal. Some (refusal_text refusal) };
+
+    fn fmt<W: fmt::Write>(&self, f: &mut fmt::Formatter<W>) -> fmt::Result {
+        write!(f, "turned down {}", self.number)?;
+        match self.record {
+            Some(record) => write!(f, " record {record}"),
+            None => Ok(()),
+        }
     }
 }
