@@ -1,3 +1,4 @@
 pub mod Validity
+pub mod Labels
 pub mod RowLists
 pub mod Scans

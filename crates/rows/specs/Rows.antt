@@ -1,4 +1,5 @@
-use Rattle.std.specs.Prelude.{◌≡◌, ℕ, ◌+◌, ◌≤◌, Bool, true, cond, ◌&&◌, Ok, Err, Result, nat_le}
+use Rattle.std.specs.Prelude.{◌≡◌, ℕ, ◌+◌, ◌≤◌, Bool, true, cond, ◌&&◌, List, [], ◌∷◌, ◌++◌, Ok, Err, Result, nat_le, slice_index}
+use Rattle.std.specs.Char.{encode_utf8}
 use Rattle.rows.specs.declared.fault.RowFault.{RowFault}
 use Rattle.rows.specs.declared.fault.RowFault.TheVariants.{PeriodRange, DeadlineAbovePeriod, NoCompute, CostAboveDeadline, LabelByte}
 use Rattle.rows.specs.declared.row.Label.{Label}
@@ -10,6 +11,18 @@ is_printable b = nat_le 33 b && nat_le b 126
 
 abbrev pub is_labelled : Label → Bool
 is_labelled l = is_printable l.first && (is_printable l.second && (is_printable l.third && is_printable l.fourth))
+
+-- the label of four bytes
+abbrev pub label_of : List ℕ → Label
+label_of bytes = record { first = slice_index bytes 0; second = slice_index bytes 1; third = slice_index bytes 2; fourth = slice_index bytes 3 }
+
+-- the four bytes of a label
+abbrev pub label_bytes : Label → List ℕ
+label_bytes l = l.first ∷ l.second ∷ l.third ∷ l.fourth ∷ []
+
+-- the characters that a label's bytes number, as a text has them
+abbrev pub label_text : Label → List ℕ
+label_text l = encode_utf8 l.first ++ (encode_utf8 l.second ++ (encode_utf8 l.third ++ encode_utf8 l.fourth))
 
 -- what every row of a draft keeps
 pub record Valid (r : Row) : Type 0 where

@@ -6,6 +6,7 @@ ghost use Rattle.rows.specs.Rows.{Valid};
 use crate::draft::Draft;
 use crate::fault::{BadRecord, BookFault, LoadFault, RecordFault};
 use crate::row::{Label, Row};
+use crate::word::word_at;
 
 impl Draft {
     // Adds the records of a book at the end, all or none. The first fault decides.
@@ -96,12 +97,4 @@ fn row_at(bytes: &[u8], at: usize) -> Row
         processor_rank: bytes[at + 17],
         label,
     }
-}
-
-// The big-endian number of four bytes.
-fn word_at(bytes: &[u8], at: usize) -> u32
-    requires { at + 4 ≤ length bytes.now }
-    ensures { result ≡ word_at bytes.now at }
-{
-    u32::from_be_bytes([bytes[at], bytes[at + 1], bytes[at + 2], bytes[at + 3]])
 }

@@ -5,3 +5,4 @@ pub mod draft;
 pub mod fault;
 pub mod row;
 mod table;
+pub mod word;

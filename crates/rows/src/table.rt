@@ -5,7 +5,7 @@ ghost use Rattle.rows.specs.declared.row.Row.{Row as Line};
 use crate::row::Row;
 
 // Room for 32 rows. Which of them count, and that these are valid, is the draft's matter.
-#[derive(Clone, Copy)]
+#[derive(Clone, Copy, Default)]
 pub struct Table {
     pub rows: [Row; 32],
 }

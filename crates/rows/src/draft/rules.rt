@@ -4,7 +4,7 @@ ghost use Rattle.rows.specs.Rows.{Valid, checked};
 
 use super::Draft;
 use crate::fault::{DraftFault, EditFault, RowFault};
-use crate::row::{Label, Row};
+use crate::row::Row;
 use crate::table::Table;
 
 impl Draft {
@@ -12,23 +12,8 @@ impl Draft {
     pub fn new() -> Draft
         ensures { rows_of result ≡ [] }
     {
-        let label = Label {
-            first: 0,
-            second: 0,
-            third: 0,
-            fourth: 0,
-        };
-        let blank = Row {
-            memory: 0,
-            compute: 0,
-            deadline: 0,
-            period: 0,
-            memory_rank: 0,
-            processor_rank: 0,
-            label,
-        };
         Draft {
-            table: Table { rows: [blank; 32] },
+            table: Table::default(),
             count: 0,
         }
     }

@@ -1,18 +1,55 @@
-ghost use Rattle.rows.specs.Rows.{Valid, checked, is_labelled, is_printable};
-ghost use Rattle.std.specs.Prelude.{◌≡◌, OnOk};
+ghost use Rattle.rows.specs.Rows.{Valid, checked, is_labelled, is_printable, label_bytes, label_of, label_text};
+ghost use Rattle.std.specs.Prelude.{◌≡◌, OnOk, Some};
 
 use super::{Label, Row};
 use crate::fault::RowFault;
+use std::fmt;
 
 impl Label {
     // Whether every byte is from 21 to 7E hexadecimal, so that it shows and is no space.
-    fn is_printable(&self) -> bool
+    pub fn is_printable(&self) -> bool
         ensures { result ≡ is_labelled self.now }
     {
         printable(self.first)
             && printable(self.second)
             && printable(self.third)
             && printable(self.fourth)
+    }
+}
+
+// The label of four bytes, whatever they are.
+impl From<[u8; 4]> for Label {
+    ghost from_gives = { λ bytes label. label ≡ label_of bytes };
+
+    fn from(value: [u8; 4]) -> Label {
+        let [first, second, third, fourth] = value;
+        Label {
+            first,
+            second,
+            third,
+            fourth,
+        }
+    }
+}
+
+impl From<Label> for [u8; 4] {
+    ghost from_gives = { λ label bytes. bytes ≡ label_bytes label };
+
+    fn from(value: Label) -> [u8; 4] {
+        [value.first, value.second, value.third, value.fourth]
+    }
+}
+
+// A label shows as the characters that its bytes number: as its bytes themselves, if it is printable.
+impl fmt::Display for Label {
+    ghost output = { λ label. Some (label_text label) };
+
+    fn fmt<W: fmt::Write>(&self, f: &mut fmt::Formatter<W>) -> fmt::Result {
+        let first = self.first as char;
+        let second = self.second as char;
+        let third = self.third as char;
+        let fourth = self.fourth as char;
+        write!(f, "{first}{second}{third}{fourth}")
     }
 }
 
