@@ -1,4 +1,5 @@
 pub mod Validity
 pub mod Labels
 pub mod RowLists
+pub mod Chunks
 pub mod Scans

@@ -1,4 +1,5 @@
-use Rattle.std.proofs.Common.{◌≡◌, ℕ, zero, suc, ◌+◌, ◌-◌, ◌*◌, ◌/◌, ◌%◌, ◌<◌, ◌≤◌, List, [], ◌∷◌, ◌++◌, length, Ok, Err, Result, sym, refl, ap, ◌∙◌, subst, inl, inr, add-zero, add-one, arith}
+use Rattle.std.proofs.Common.{◌≡◌, ℕ, zero, suc, ◌+◌, ◌-◌, ◌*◌, ◌/◌, ◌%◌, ◌<◌, ◌≤◌, List, true, is_ok, true≢false, [], ◌∷◌, ◌++◌, length, Ok, Err, Result, sym, refl, ap, ◌∙◌, subst, inl, inr, add-zero, add-one, arith}
+use Rattle.std.specs.Result.{IsErrAnd}
 use Rattle.std.proofs.lemmas.Bool.{cond-true, eq-eqb}
 use Rattle.std.proofs.lemmas.Bool.Decides.{eqb_tells}
 use Rattle.std.proofs.lemmas.List.{append_assoc, append-nil}
@@ -10,6 +11,15 @@ use Rattle.rows.specs.declared.fault.LoadFault.{LoadFault}
 use Rattle.rows.specs.declared.fault.LoadFault.TheVariants.{Book}
 use Rattle.rows.specs.declared.fault.RecordFault.{RecordFault}
 use Rattle.rows.specs.declared.row.Row.{Row}
+
+-- what a record is told as
+pub numbered_ok : (i : ℕ) (r : Result Unit RecordFault) → true ≡ is_ok r → Ok tt ≡ numbered i r
+numbered_ok i (Ok _) e = refl
+numbered_ok i (Err fault) e = absurd (true≢false e)
+
+pub numbered_err : (i : ℕ) (r : Result Unit RecordFault) (bad : BadRecord RecordFault) → IsErrAnd r (λ fault. bad ≡ record { number = i; fault = fault }) → Err bad ≡ numbered i r
+numbered_err i (Ok _) bad e = absurd e
+numbered_err i (Err fault) bad e = ap Err e
 
 -- one record on
 pub scanned-step : (n : ℕ) (bs : List ℕ) (i m : ℕ) → i < m → scanned n bs i (m - i) ≡ go_on (numbered i (record_at n bs i)) (scanned (n + 1) bs (i + 1) (m - (i + 1)))
