@@ -1,18 +1,15 @@
-use Rattle.std.proofs.Common.{◌≡◌, ℕ, ◌+◌, ◌-◌, ◌<◌, ◌≤◌, true, cond, ltb, ◌⊎◌, List, length, get_or, take, drop, set, Ok, Err, Result, sym, ap, ◌∙◌, subst, inl, inr, arith, length-append, length-drop, length-set}
-use Rattle.std.proofs.lemmas.Bool.Decides.{eqb_tells, leb_tells}
+use Rattle.std.proofs.Common.{◌≡◌, ℕ, ◌+◌, ◌-◌, ◌<◌, ◌≤◌, true, cond, IfOk, ltb, List, length, get_or, take, drop, set, Ok, Err, Result, sym, ap, ◌∙◌, subst, inl, inr, arith, length-append, length-drop, length-set}
+use Rattle.std.proofs.lemmas.Bool.Decides.{eqb_tells}
 use Rattle.std.proofs.lemmas.List.{length-take-le, get_or-take, get_or-drop, get_or_append_left, get_or-append_right, same_lists, get_or-set_same, get_or-set_other}
 use Rattle.rows.specs.Rows.{Valid, is_valid, blank}
 use Rattle.rows.specs.Tables.{GapClosed}
 use Rattle.rows.specs.Drafts.{rows_of, without, EachValid, gotten, OthersStay}
-use Rattle.std.proofs.lemmas.Bool.{cases_lt, cond-false, le-ltb, lt-ltb}
+use Rattle.std.proofs.lemmas.Bool.{cases_lt, cond-true, cond-false, le-ltb, lt-ltb}
 use Rattle.rows.specs.declared.fault.DraftFault.{DraftFault}
 use Rattle.rows.specs.declared.fault.DraftFault.TheVariants.{NoSuchRow}
 use Rattle.rows.specs.declared.row.Row.{Row}
 use Rattle.rows.specs.declared.draft.Draft.{Draft}
 use Rattle.rows.proofs.Validity.{true_valid, valid_true}
-
-pub below_or_not : (k i : ℕ) → (k < i) ⊎ (i ≤ k)
-below_or_not k i = elim (leb_tells i k) [ inl e ↦ inr e.1 | inr e ↦ inl e.1 ]
 
 pub length-rows : (d : Draft) → length (rows_of d) ≡ d.count
 length-rows d = length-take-le d.count d.table.rows (omega (arith, d.few, d.full))
@@ -35,7 +32,7 @@ valid_written xs n m i r within old new cover k d h =
 pub valid_closed : (xs ys : List Row) (n i : ℕ) → GapClosed xs ys i (n - 1) → ((k : ℕ) (d : Row) → k < n → is_valid (get_or xs k d) ≡ true)
     → (k : ℕ) (d : Row) → k < n - 1 → is_valid (get_or ys k d) ≡ true
 valid_closed xs ys n i c old k d h =
-    elim (below_or_not k i) [
+    elim (cases_lt k i) [
       | inl e ↦ rw (c.below k d e) (old k d (omega arith))
       | inr e ↦ rw (c.moved k d e h) (old (k + 1) d (omega arith))
     ]
@@ -47,7 +44,7 @@ take-closed xs ys n i long h c =
     (simp (length-append, length-drop, front) (omega (arith, length-take-le n xs long, length-take-le (n - 1) ys (omega (arith, c.long)))))
     (λ k d q.
     let q' : k < n - 1 = omega (arith, q, length-take-le (n - 1) ys (omega (arith, c.long)))
-    in elim (below_or_not k i) [
+    in elim (cases_lt k i) [
       | inl e ↦
           get_or-take (n - 1) ys k d q' ∙ c.below k d e ∙ sym (get_or-take n xs k d (omega arith)) ∙ sym (get_or-take i (take n xs) k d e)
           ∙ sym (get_or_append_left (take i (take n xs)) (drop (i + 1) (take n xs)) d k (omega (arith, front)))
@@ -58,30 +55,19 @@ take-closed xs ys n i long h c =
           ∙ sym (get_or-append_right (take i (take n xs)) (drop (i + 1) (take n xs)) i k d front e)
     ])
 
--- one turn of the loop that closes a gap
-pub closed_more : (xs ys : List Row) (i m : ℕ) (r : Row) → GapClosed xs ys i m → i ≤ m → m + 1 < length xs → ((d : Row) → r ≡ get_or ys (m + 1) d) → GapClosed xs (set ys m r) i (m + 1)
-closed_more xs ys i m r c low high read = record {
-  long = length-set ys m r ∙ c.long;
-  below = λ k d h. get_or-set_other ys m k r d (omega arith) ∙ c.below k d h;
-  moved = λ k d h g.
-      elim (eqb_tells k m) [
-        | inl e ↦ rw e.1 (get_or-set_same ys m r d (omega (arith, c.long)) ∙ read d ∙ c.above (m + 1) d (omega arith))
-        | inr e ↦ get_or-set_other ys m k r d e.1 ∙ c.moved k d h (omega (arith, e.1))
-      ];
-  above = λ k d h. get_or-set_other ys m k r d (omega arith) ∙ c.above k d (omega arith);
-}
-
 -- what a slice of a draft's rows keeps
 pub rows-valid : (d : Draft) (xs : List Row) → xs ≡ rows_of d → EachValid xs
 rows-valid d xs e i h =
     let n : i < d.count = omega (arith, ap length e, length-rows d)
     in subst Valid (ap (λ ys. get_or ys i blank) (sym e)) (row-valid d i n)
 
--- the row of a number that there is
-pub gotten-here : (d : Draft) (i : ℕ) (r : Row) → i < d.count → ((e : Row) → r ≡ get_or d.table.rows i e) → Ok r ≡ gotten (rows_of d) i
-gotten-here d i r h read =
-    let e : r ≡ get_or (rows_of d) i blank = read blank ∙ sym (row_at_number d i h)
-    in rw (lt-ltb i (length (rows_of d)) (omega (arith, length-rows d))) (ap Ok e)
+-- a row that is gotten is valid
+pub gotten-valid : (xs : List Row) (i : ℕ) (r : Result Row DraftFault) → EachValid xs → r ≡ gotten xs i → IfOk r Valid
+gotten-valid xs i r each e =
+    elim (cases_lt i (length xs)) [
+      | inl h ↦ subst (λ o. IfOk o Valid) (sym (e ∙ cond-true _ _ _ (lt-ltb i (length xs) h))) (each i h)
+      | inr h ↦ subst (λ o. IfOk o Valid) (sym (e ∙ cond-false _ _ _ (le-ltb i (length xs) h))) tt
+    ]
 
 -- writing one row of a list leaves every other
 pub others_stay : (xs : List Row) (i : ℕ) (r : Row) → OthersStay xs (set xs i r) i

@@ -1,6 +1,5 @@
-ghost use Rattle.std.specs.Prelude.{◌≡◌, ◌+◌, ◌-◌, ◌<◌, ◌≤◌, length, slice_index_or, slice_set};
+ghost use Rattle.std.specs.Prelude.{◌≡◌, ◌-◌, ◌<◌, ◌≤◌, slice_set};
 ghost use Rattle.rows.specs.Tables.{GapClosed};
-ghost use Rattle.rows.specs.declared.row.Row.{Row as Line};
 
 use crate::row::Row;
 
@@ -19,22 +18,12 @@ impl Table {
         self.rows[i as usize] = row;
     }
 
-    pub(crate) fn at(&self, i: u8) -> Row
-        requires { i < 32 }
-        ensures read { (d : Line) → result ≡ slice_index_or self.now.rows i d }
-        ensures room { length self.now.rows ≡ 32 }
-    {
-        self.rows[i as usize]
-    }
-
     // Moves the rows behind place i, of the first n, down by one.
     pub(crate) fn close_gap(&mut self, i: u8, n: u8)
         requires { (i < n) × (n ≤ 32) }
         ensures { GapClosed self.old.rows self.new.rows i (n - 1) }
     {
-        for k in i..n - 1 {
-            let next = self.at(k + 1);
-            self.put(k, next);
-        }
+        self.rows
+            .copy_within(i as usize + 1..n as usize, i as usize);
     }
 }

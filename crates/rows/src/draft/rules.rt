@@ -40,11 +40,10 @@ impl Draft {
         ensures value { result ≡ gotten (rows_of self.now) i }
         ensures valid { IfOk result Valid }
     {
-        if i < self.count {
-            Ok(self.table.at(i))
-        } else {
-            Err(DraftFault::NoSuchRow)
-        }
+        self.rows()
+            .get(i as usize)
+            .copied()
+            .ok_or(DraftFault::NoSuchRow)
     }
 
     // Adds a row at the end.
@@ -66,7 +65,7 @@ impl Draft {
         ensures others { OthersStay (rows_of self.old) (rows_of self.new) i }
         ensures refused { is_err result ≡ true → self.new ≡ self.old }
     {
-        self.has(i)?;
+        self.row(i)?;
         row.check()?;
         self.table.put(i, row);
         Ok(())
@@ -103,17 +102,6 @@ impl Draft {
             Ok(())
         } else {
             Err(DraftFault::Full)
-        }
-    }
-
-    // Whether there is a row of this number.
-    fn has(&self, i: u8) -> Result<(), DraftFault>
-        ensures { result ≡ has_row (rows_of self.now) i }
-    {
-        if i < self.count {
-            Ok(())
-        } else {
-            Err(DraftFault::NoSuchRow)
         }
     }
 

@@ -6,7 +6,7 @@ use Rattle.rows.proofs.draft.Draft.change.Goals as goal
 
 pub invariant_of-self : goal.invariant_of-self
 invariant_of-self c =
-    let here : c.args.i < c.args.self.now.count = has_row_if_ok c.args.self.now c.args.i tt tt c.in_ok-has.ensures
+    let here : c.args.i < c.args.self.now.count = has_row_if_ok c.args.self.now c.args.i c.in_ok-row.field-0 _ c.in_ok-row.ensures.value
     in record {
       full = simp (c.put.ensures, length-set) c.args.self.now.full;
       few = c.args.self.now.few;
@@ -17,7 +17,7 @@ invariant_of-self c =
 
 pub returns : goal.returns
 returns c =
-    let here : c.args.i < c.args.self.now.count = has_row_if_ok c.args.self.now c.args.i tt tt c.in_ok-has.ensures
+    let here : c.args.i < c.args.self.now.count = has_row_if_ok c.args.self.now c.args.i c.in_ok-row.field-0 _ c.in_ok-row.ensures.value
     in let rows = take-set-lt c.args.self.now.count c.args.self.now.table.rows c.args.i c.args.row here
     in record {
       value = search rules;
