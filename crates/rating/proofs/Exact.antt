@@ -100,7 +100,7 @@ module _ (rows : List Row) (s t : Sequence) (ms ps : List ℕ) (am : Agrees s.be
         processor = λ k h.
             found_least (processor_work rows (memory_figure_of rows ms) (rows_before t.before rows k) k) _ _
             (sym (bound_agrees t rows ps ap' sp Processor (memory_figure_of rows ms) k h) ∙ (all k h).processor);
-        in_time = λ k h. within-deadline rows ms ps k (all k h);
+        in_time = λ k h. within-deadline rows ms ps k _ _ (all k h).memory (all k h).processor;
       }
 
   -- solutions within the deadlines are found, since a processor bound leaves no less than the row's own cost

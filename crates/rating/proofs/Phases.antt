@@ -1,23 +1,25 @@
-use Rattle.std.proofs.Common.{◌≡◌, ℕ, ◌+◌, ◌*◌, ◌<◌, ◌≤◌, List, [], ◌∷◌, ◌++◌, map, length, get_or, take, set, is_some, Some, None, sym, refl, ap, ◌∙◌, subst, add-zero, arith, below_more}
+use Rattle.std.proofs.Common.{◌≡◌, ℕ, ◌+◌, ◌*◌, ◌<◌, ◌≤◌, List, [], ◌∷◌, ◌++◌, map, length, get_or, take, set, is_some, Some, None, Result, sym, refl, ap, ◌∙◌, add-zero, arith, below_more}
 use Rattle.std.proofs.lemmas.List.{get_or-set_other, get_or-set_same, length-map, length-take-le, map_more}
 use Rattle.rows.specs.Rows.{Valid}
 use Rattle.rows.specs.declared.row.Row.{Row}
-use Rattle.rating.specs.Bounds.{bound_of, ceiling_of, cost_of, figure_at, first_none, memory_asked, processor_asked, row_of, source_of, work_of}
+use Rattle.rating.specs.Bounds.{Found, bound_of, ceiling_of, cost_of, figure_at, first_none, memory_asked, processor_asked, row_of, source_of, work_of}
 use Rattle.rating.specs.Curves.{least_within}
 use Rattle.rating.specs.Demands.{demanded, sources_of}
 use Rattle.rating.specs.Quotients.{ceil}
 use Rattle.rating.specs.Rankings.{Permutes, front_of, sum_over}
 use Rattle.rating.specs.Sources.{Sound, asked}
+use Rattle.rating.specs.Ratings.{ranking_of}
+use Rattle.rating.specs.Ranked.{ranked}
+use Rattle.rows.specs.Drafts.{rows_of}
+use Rattle.rating.specs.declared.ranked.RankedDraft.{RankedDraft}
+use Rattle.rating.specs.declared.verdict.NoBound.{NoBound}
 use Rattle.rating.specs.declared.demand.Demand.{Demand}
 use Rattle.rating.specs.declared.demand.Source.{Source}
-use Rattle.rating.specs.Ranked.{ranked}
-use Rattle.rating.specs.declared.ranking.Ranking.{Ranking}
 use Rattle.rating.specs.declared.verdict.Phase.{Phase}
 use Rattle.rating.specs.declared.verdict.Phase.TheVariants.{Memory, Processor}
 use Rattle.rating.proofs.Curves.{least_within-same}
 use Rattle.rating.proofs.Firsts.{first-none_at}
 use Rattle.rating.proofs.Fronts.{front_at}
-use Rattle.rating.proofs.Rankings.{permutes}
 
 -- what row i asks of later rows
 abbrev pub source_for : Phase → List Row → (ℕ → ℕ) → ℕ → Source
@@ -49,41 +51,35 @@ pub source_sound : (phase : Phase) (row : Row) (late : ℕ) → Valid row → So
 source_sound Memory row late v = record { cheap = omega (arith, v.fits, v.in_time, v.short_period); apart = v.some_period }
 source_sound Processor row late v = record { cheap = omega (arith, v.fits, v.in_time, v.short_period); apart = v.some_period }
 
--- a turn of a loop over a ranking's numbers os: the place, the number there and the row that it names
-pub record Turn (rows : List Row) (rs os : List ℕ) (p : ℕ) : Type 0 where
+-- a turn of a loop over a ranking's numbers: the place, and the row that the number there names
+pub record Turn (rows : List Row) (rs : List ℕ) (p : ℕ) : Type 0 where
   pub permutes : Permutes (length rows) rs
   pub place : p < length rows
-  pub here : get_or os p 0 ≡ get_or rs p 0
-  pub within : get_or os p 0 < length rows
+  pub within : get_or rs p 0 < length rows
 
-pub turn : (rows : List Row) (r : Ranking) (os : List ℕ) (p : ℕ) → os ≡ ranked r → r.count ≡ length rows → p < length os → Turn rows (ranked r) os p
-turn rows r os p same count h =
-    let each = subst (λ n. Permutes n (ranked r)) count (permutes r)
-    in let place : p < length rows = omega (arith, ap length same, each.long)
-    in let here = ap (λ xs. get_or xs p 0) same
-    in record { permutes = each; place = place; here = here; within = subst (λ k. k < length rows) (sym here) (each.number p place) }
+pub turn : (rows : List Row) (rs : List ℕ) (p : ℕ) → Permutes (length rows) rs → p < length rs → Turn rows rs p
+turn rows rs p each h =
+    let place : p < length rows = omega (arith, each.long) in record { permutes = each; place = place; within = each.number p place }
 
 -- One turn, where the rows passed are the demand's sources.
-module _ (phase : Phase) (rows : List Row) (late : ℕ → ℕ) (rs os : List ℕ) (p : ℕ) (t : Turn rows rs os p) where
+module _ (phase : Phase) (rows : List Row) (late : ℕ → ℕ) (rs : List ℕ) (p : ℕ) (t : Turn rows rs p) where
   once : (q s : ℕ) → q < s → s < length rs → get_or rs q 0 ≡ get_or rs s 0 → ⊥
   once q s a b = t.permutes.once q s a (omega (arith, t.permutes.long))
 
-  front : front_of rs (get_or os p 0) ≡ take p rs
-  front = ap (front_of rs) t.here ∙ front_at rs once p (omega (arith, t.place, t.permutes.long))
+  front : front_of rs (get_or rs p 0) ≡ take p rs
+  front = front_at rs once p (omega (arith, t.place, t.permutes.long))
 
   -- the search answers the bound of the row there
-  pub bound_here : (d : Demand) → d.own ≡ cost_of phase (row_of rows (get_or os p 0)) → sources_of d ≡ sources_for phase rows late (take p rs)
-      → least_within (demanded d).work (ceiling_of phase (row_of rows (get_or os p 0)) (late (get_or os p 0))) ≡ bound_of phase rows late (front_of rs) (get_or os p 0)
+  pub bound_here : (d : Demand) → d.own ≡ cost_of phase (row_of rows (get_or rs p 0)) → sources_of d ≡ sources_for phase rows late (take p rs)
+      → least_within (demanded d).work (ceiling_of phase (row_of rows (get_or rs p 0)) (late (get_or rs p 0))) ≡ bound_of phase rows late (front_of rs) (get_or rs p 0)
   bound_here d own sources =
-      least_within-same (demanded d).work (work_of phase rows late (front_of rs (get_or os p 0)) (get_or os p 0)) _
+      least_within-same (demanded d).work (work_of phase rows late (front_of rs (get_or rs p 0)) (get_or rs p 0)) _
       (λ w.
-      ap (λ x. x + asked (sources_of d) w) own ∙ ap (λ xs. cost_of phase (row_of rows (get_or os p 0)) + asked xs w) sources ∙ work_asked phase rows late (take p rs) (get_or os p 0) w
-      ∙ ap (λ (xs : List ℕ). work_of phase rows late xs (get_or os p 0) w) (sym front))
+      ap (λ x. x + asked (sources_of d) w) own ∙ ap (λ xs. cost_of phase (row_of rows (get_or rs p 0)) + asked xs w) sources ∙ work_asked phase rows late (take p rs) (get_or rs p 0) w
+      ∙ ap (λ (xs : List ℕ). work_of phase rows late xs (get_or rs p 0) w) (sym front))
 
-  pub sources_more : sources_for phase rows late (take p rs) ++ source_for phase rows late (get_or os p 0) ∷ [] ≡ sources_for phase rows late (take (p + 1) rs)
-  sources_more =
-      ap (λ k. sources_for phase rows late (take p rs) ++ source_for phase rows late k ∷ []) t.here
-      ∙ sym (map_more (source_for phase rows late) rs p 0 (omega (arith, t.place, t.permutes.long)))
+  pub sources_more : sources_for phase rows late (take p rs) ++ source_for phase rows late (get_or rs p 0) ∷ [] ≡ sources_for phase rows late (take (p + 1) rs)
+  sources_more = sym (map_more (source_for phase rows late) rs p 0 (omega (arith, t.place, t.permutes.long)))
 
   pub length_sources_for : length (sources_for phase rows late (take p rs)) ≡ p
   length_sources_for = length-map (take p rs) (source_for phase rows late) ∙ length-take-le p rs (omega (arith, t.place, t.permutes.long))
@@ -91,19 +87,22 @@ module _ (phase : Phase) (rows : List Row) (late : ℕ → ℕ) (rs os : List �
   -- the bounds found stay, and one comes to them
   pub bounds_more : (found : List ℕ) (w : ℕ) → length found ≡ 32 → length rows ≤ 32
       → ((q : ℕ) → q < p → bound_of phase rows late (front_of rs) (get_or rs q 0) ≡ Some (figure_at found (get_or rs q 0)))
-      → bound_of phase rows late (front_of rs) (get_or os p 0) ≡ Some w
-      → (q : ℕ) → q < p + 1 → bound_of phase rows late (front_of rs) (get_or rs q 0) ≡ Some (figure_at (set found (get_or os p 0) w) (get_or rs q 0))
+      → bound_of phase rows late (front_of rs) (get_or rs p 0) ≡ Some w
+      → (q : ℕ) → q < p + 1 → bound_of phase rows late (front_of rs) (get_or rs q 0) ≡ Some (figure_at (set found (get_or rs p 0) w) (get_or rs q 0))
   bounds_more found w full few before here =
-      below_more (λ q. bound_of phase rows late (front_of rs) (get_or rs q 0) ≡ Some (figure_at (set found (get_or os p 0) w) (get_or rs q 0))) p
+      below_more (λ q. bound_of phase rows late (front_of rs) (get_or rs q 0) ≡ Some (figure_at (set found (get_or rs p 0) w) (get_or rs q 0))) p
       (λ q g.
-      before q g ∙ ap Some (sym (get_or-set_other found (get_or os p 0) (get_or rs q 0) w 0 (λ e. t.permutes.once q p g t.place (e ∙ t.here)))))
-      (subst (λ k. bound_of phase rows late (front_of rs) k ≡ Some (figure_at (set found (get_or os p 0) w) k)) t.here
-      (here ∙ ap Some (sym (get_or-set_same found (get_or os p 0) w 0 (omega (arith, t.within))))))
+      before q g ∙ ap Some (sym (get_or-set_other found (get_or rs p 0) (get_or rs q 0) w 0 (t.permutes.once q p g t.place))))
+      (here ∙ ap Some (sym (get_or-set_same found (get_or rs p 0) w 0 (omega (arith, t.within)))))
 
   -- the row there has no bound, and is the first without
   pub none_here : (found : List ℕ) → ((q : ℕ) → q < p → bound_of phase rows late (front_of rs) (get_or rs q 0) ≡ Some (figure_at found (get_or rs q 0)))
-      → bound_of phase rows late (front_of rs) (get_or os p 0) ≡ None → first_none (bound_of phase rows late (front_of rs)) rs ≡ Some (get_or os p 0)
+      → bound_of phase rows late (front_of rs) (get_or rs p 0) ≡ None → first_none (bound_of phase rows late (front_of rs)) rs ≡ Some (get_or rs p 0)
   none_here found before here =
       first-none_at (bound_of phase rows late (front_of rs)) rs p (omega (arith, t.place, t.permutes.long)) (λ q g. ap is_some (before q g))
-      (subst (λ k. bound_of phase rows late (front_of rs) k ≡ None) t.here here)
-      ∙ ap Some (sym t.here)
+      here
+
+-- what is found of rows and a ranking that go by other names is found of a ranked draft
+pub found-lent : (d : RankedDraft) (phase : Phase) (late : ℕ → ℕ) (rows : List Row) (rs : List ℕ) → rows ≡ rows_of d.draft → rs ≡ ranked (ranking_of d phase)
+    → (r : Result (List ℕ) NoBound) → Found phase rows late rs r → Found phase (rows_of d.draft) late (ranked (ranking_of d phase)) r
+found-lent d phase late rows rs e f r h = rw (sym e, sym f) h

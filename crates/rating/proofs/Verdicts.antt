@@ -1,14 +1,16 @@
-use Rattle.std.proofs.Common.{◌≡◌, ℕ, ◌+◌, ◌<◌, ◌≤◌, true, false, List, length, get_or, is_some, Some, None, Option, sym, refl, ap, subst, arith}
+use Rattle.std.proofs.Common.{◌≡◌, ℕ, ◌+◌, ◌<◌, ◌≤◌, true, false, List, length, is_some, Some, None, Option, unwrap_or, sym, refl, ap, subst, arith}
 use Rattle.rows.specs.Drafts.{rows_of}
 use Rattle.rows.specs.declared.row.Row.{Row}
 use Rattle.rating.specs.Bounds.{first_none, is_accepted, judged, memory_bound, memory_figure_of, processor_bound, processor_figure_of, row_of, verdict_of}
+use Rattle.rating.specs.Found.{verdict_found}
 use Rattle.rating.specs.Ranked.{ranked}
 use Rattle.rating.specs.Ratings.{LateRow}
 use Rattle.rating.specs.Rankings.{Permutes}
 use Rattle.rating.specs.declared.rating.Analysis.{Analysis}
+use Rattle.rating.specs.declared.verdict.Phase.TheVariants.{Memory, Processor}
 use Rattle.rating.proofs.Curves.{least_within-some}
 use Rattle.rating.proofs.Firsts.{first_below, none_first, some-value}
-use Rattle.rating.proofs.Rankings.{permutes}
+use Rattle.rating.proofs.Rankings.{permutes-rows}
 
 -- an accepted verdict leaves no row out
 pub accepted_none : (a b : Option ℕ) → is_accepted (judged a b) ≡ true → (a ≡ None) × (b ≡ None)
@@ -38,22 +40,9 @@ all-bounded rows ms ps am ap e k h =
     }
 
 -- the two bounds of a row are together within its deadline
-pub within-deadline : (rows : List Row) (ms ps : List ℕ) (k : ℕ) → Bounded rows ms ps k → memory_figure_of rows ms k + processor_figure_of rows ms ps k ≤ (row_of rows k).deadline
-within-deadline rows ms ps k b =
-    let m = least_within-some _ _ _ b.memory
-    in let p = least_within-some _ _ _ b.processor
-    in omega (arith, m.within, p.within)
-
-pub analysis_within : (x : Analysis) → is_accepted x.verdict ≡ true → (k : ℕ) → k < length (rows_of x.draft)
-    → memory_figure_of (rows_of x.draft) (ranked x.memory) k + processor_figure_of (rows_of x.draft) (ranked x.memory) (ranked x.processor) k
-    ≤ (row_of (rows_of x.draft) k).deadline
-analysis_within x e k h =
-    let rows = rows_of x.draft
-    in within-deadline rows (ranked x.memory) (ranked x.processor) k
-    (all-bounded rows (ranked x.memory) (ranked x.processor)
-    (subst (λ n. Permutes n (ranked x.memory)) x.memory_rows (permutes x.memory))
-    (subst (λ n. Permutes n (ranked x.processor)) x.processor_rows (permutes x.processor))
-    (subst (λ v. is_accepted v ≡ true) x.rated e) k h)
+pub within-deadline : (rows : List Row) (ms ps : List ℕ) (k m p : ℕ) → memory_bound rows ms k ≡ Some m → processor_bound rows ms ps k ≡ Some p → m + p ≤ (row_of rows k).deadline
+within-deadline rows ms ps k m p e f =
+    omega (arith, (least_within-some _ _ _ e).within, (least_within-some _ _ _ f).within, ap (λ o. unwrap_or o 0) e)
 
 -- a verdict over numbers of rows names a row
 pub judged-row : (rows : List Row) (a b : Option ℕ) → ((k : ℕ) → a ≡ Some k → k < length rows) → ((k : ℕ) → b ≡ Some k → k < length rows) → LateRow rows (judged a b)
@@ -61,14 +50,11 @@ judged-row rows (Some k) b first second = first k refl
 judged-row rows None (Some k) first second = second k refl
 judged-row rows None None first second = tt
 
-pub late-row : (x : Analysis) → LateRow (rows_of x.draft) x.verdict
+pub late-row : (x : Analysis) → LateRow (rows_of x.ranked.draft) (verdict_found x.found)
 late-row x =
-    let rows = rows_of x.draft
-    in let ms = permutes x.memory
-    in let ps = permutes x.processor
-    in let below : (p : ℕ) → p < length (ranked x.memory) → get_or (ranked x.memory) p 0 < length rows =
-    λ p h. omega (arith, ms.number p (omega (arith, ms.long)), x.memory_rows)
-    in let under : (p : ℕ) → p < length (ranked x.processor) → get_or (ranked x.processor) p 0 < length rows =
-    λ p h. omega (arith, ps.number p (omega (arith, ps.long)), x.processor_rows)
-    in subst (LateRow rows) (sym x.rated)
-    (judged-row rows _ _ (first_below _ (ranked x.memory) (length rows) below) (first_below _ (ranked x.processor) (length rows) under))
+    let ms = permutes-rows x.ranked Memory
+    in let ps = permutes-rows x.ranked Processor
+    in subst (LateRow (rows_of x.ranked.draft)) (sym x.rated)
+    (judged-row (rows_of x.ranked.draft) _ _
+    (first_below _ (ranked x.ranked.memory) _ (λ p h. ms.number p (omega (arith, ms.long))))
+    (first_below _ (ranked x.ranked.processor) _ (λ p h. ps.number p (omega (arith, ps.long)))))

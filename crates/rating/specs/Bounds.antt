@@ -6,6 +6,7 @@ use Rattle.rating.specs.Curves.{least_within}
 use Rattle.rating.specs.Quotients.{ceil}
 use Rattle.rating.specs.Rankings.{front_of, sum_over}
 use Rattle.rating.specs.declared.demand.Source.{Source}
+use Rattle.rating.specs.declared.verdict.NoBound.{NoBound}
 use Rattle.rating.specs.declared.verdict.Phase.{Phase}
 use Rattle.rating.specs.declared.verdict.Phase.TheVariants.{Memory, Processor}
 use Rattle.rating.specs.declared.verdict.Verdict.{Verdict}
@@ -74,10 +75,10 @@ abbrev pub figure_at : List ℕ → ℕ → ℕ
 figure_at figures i = slice_index figures i
 
 -- what goes through the rows in the order rs finds: the bound of every row, or the first row that has none
-abbrev pub Found : Phase → List Row → (ℕ → ℕ) → List ℕ → Result (List ℕ) ℕ → Type 0
+abbrev pub Found : Phase → List Row → (ℕ → ℕ) → List ℕ → Result (List ℕ) NoBound → Type 0
 Found phase rows late rs (Ok found) =
     (length found ≡ 32) × ((k : ℕ) → k < length rows → bound_of phase rows late (front_of rs) k ≡ Some (figure_at found k))
-Found phase rows late rs (Err k) = first_none (bound_of phase rows late (front_of rs)) rs ≡ Some k
+Found phase rows late rs (Err none) = (none.phase ≡ phase) × (first_none (bound_of phase rows late (front_of rs)) rs ≡ Some none.row)
 
 -- The bounds that two rankings give: those of the memory come first, and make the rows late at the processor.
 

@@ -3,6 +3,7 @@ pub mod Closing
 pub mod Curves
 pub mod Demands
 pub mod Figures
+pub mod Found
 pub mod Orders
 pub mod Quotients
 pub mod Ranked

@@ -5,6 +5,7 @@ pub mod demand;
 pub mod order;
 mod phase;
 mod quotient;
+mod ranked;
 pub mod ranking;
 pub mod rating;
 pub mod verdict;

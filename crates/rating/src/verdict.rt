@@ -11,3 +11,10 @@ pub enum Verdict {
     Accepted,
     Late(Phase, u8),
 }
+
+// The first row in a phase's order that has no bound.
+#[derive(Clone, Copy)]
+pub(crate) struct NoBound {
+    pub phase: Phase,
+    pub row: u8,
+}

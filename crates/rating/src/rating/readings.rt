@@ -1,5 +1,6 @@
 ghost use Rattle.std.specs.Prelude.{◌≡◌, ◌+◌, ◌≤◌, length, IfSome};
 ghost use Rattle.rating.specs.Bounds.{row_of};
+ghost use Rattle.rating.specs.Found.{verdict_found};
 ghost use Rattle.rating.specs.Ratings.{LateRow, bounds_at, bounds_of, draft_in, ranking_in, verdict_in};
 ghost use Rattle.rows.specs.Drafts.{EachValid, rows_of};
 
@@ -15,7 +16,7 @@ impl<A, B> Rating<A, B> {
         ensures value { result ≡ verdict_in self.now }
         ensures row { LateRow (rows_of (draft_in self.now)) result }
     {
-        self.analysis.verdict
+        self.analysis.verdict()
     }
 
     // The bounds of a row, at the memory and at the processor. A late rating has none, nor has a number without a row.
@@ -32,27 +33,21 @@ impl<A, B> Rating<A, B> {
         ensures few { length result.now ≤ 32 }
         ensures valid { EachValid result.now }
     {
-        self.analysis.draft.rows()
+        self.analysis.ranked.draft.rows()
     }
 
     // The rows in the order of a phase.
     pub fn ranking(&self, phase: Phase) -> Ranking
         ensures { result ≡ ranking_in self.now phase }
     {
-        match phase {
-            Phase::Memory => self.analysis.memory,
-            Phase::Processor => self.analysis.processor,
-        }
+        *self.lent_ranking(phase)
     }
 
     // The same, lent, so that nothing is copied.
     pub fn lent_ranking(&self, phase: Phase) -> &Ranking
         ensures { result.now ≡ ranking_in self.now phase }
     {
-        match phase {
-            Phase::Memory => &self.analysis.memory,
-            Phase::Processor => &self.analysis.processor,
-        }
+        self.analysis.ranked.ranking(phase)
     }
 
     // Gives the draft back, with the two orders.
@@ -69,25 +64,31 @@ impl<A, B> Rating<A, B> {
 }
 
 impl Analysis {
+    fn verdict(&self) -> Verdict
+        ensures { result ≡ verdict_found self.now.found }
+    {
+        match &self.found {
+            Ok(_) => Verdict::Accepted,
+            Err(none) => Verdict::Late(none.phase, none.row),
+        }
+    }
+
     fn bounds(&self, i: u8) -> Option<(u32, u32)>
         ensures value { result ≡ bounds_of self.now i }
-        ensures within { IfSome result (λ b. b.0 + b.1 ≤ (row_of (rows_of self.now.draft) i).deadline) }
+        ensures within { IfSome result (λ b. b.0 + b.1 ≤ (row_of (rows_of self.now.ranked.draft) i).deadline) }
     {
-        if let Verdict::Late(_, _) = self.verdict {
+        let Ok(bounds) = &self.found else {
+            return None;
+        };
+        if i >= self.ranked.draft.count() {
             return None;
         }
-        if i >= self.draft.count() {
-            return None;
-        }
-        Some((
-            self.memory_bounds[i as usize],
-            self.processor_bounds[i as usize],
-        ))
+        Some((bounds.memory[i as usize], bounds.processor[i as usize]))
     }
 
     fn into_draft(self) -> Draft
-        ensures { result ≡ self.draft }
+        ensures { result ≡ self.ranked.draft }
     {
-        self.draft
+        self.ranked.draft
     }
 }
