@@ -1,4 +1,3 @@
 pub mod Decimals
+pub mod Lengths
 pub mod Lines
-pub mod Listings
-pub mod Written

@@ -2,4 +2,3 @@ pub mod Faults
 pub mod Lines
 pub mod Listings
 pub mod Text
-pub mod Words

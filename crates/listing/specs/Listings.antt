@@ -1,11 +1,8 @@
-use Rattle.std.specs.Prelude.{ℕ, zero, suc, cond, List, [], ◌∷◌, ◌++◌, length, drop, Some, None, Ok, Err, decimal, Option, Result, nat_le}
+use Rattle.std.specs.Prelude.{ℕ, zero, suc, cond, List, [], ◌∷◌, ◌++◌, length, drop, Some, None, Ok, Err, codes, decimal, Option, Result, nat_le}
 use Rattle.listing.specs.Lines.{line_of}
 use Rattle.listing.specs.Text.{two_digits}
-use Rattle.listing.specs.Words.{spelled}
 use Rattle.listing.specs.declared.fault.ListingFault.{ListingFault}
 use Rattle.listing.specs.declared.fault.ListingFault.TheVariants.{ShortBuffer}
-use Rattle.listing.specs.declared.word.Word.{Word}
-use Rattle.listing.specs.declared.word.Word.TheVariants as word
 use Rattle.rating.specs.Bounds.{row_of}
 use Rattle.rating.specs.Ratings.{bounds_at, draft_in, verdict_in}
 use Rattle.rating.specs.declared.rating.Rating.{Rating}
@@ -25,18 +22,18 @@ abbrev pub bound_line : ℕ → Row → Option (ℕ × ℕ) → List ℕ
 bound_line i row (Some b) = line_of i row b
 bound_line i row None = []
 
--- the word for a phase
-abbrev pub phase_word : Phase → Word
-phase_word Memory = word.Memory
-phase_word Processor = word.Processor
+-- the word for a phase, with a space behind it
+abbrev pub phase_word : Phase → List ℕ
+phase_word Memory = codes "memory "
+phase_word Processor = codes "processor "
 
 -- what a late rating shows: the phase, the row and the line's end (10)
 abbrev pub late_text : Phase → ℕ → List ℕ
-late_text phase row = spelled word.Late ++ (spelled (phase_word phase) ++ (two_digits row ++ (10 ∷ [])))
+late_text phase row = codes "late " ++ (phase_word phase ++ (two_digits row ++ (10 ∷ [])))
 
 -- the last line of an accepted rating: the count of its rows
 abbrev pub count_text : ℕ → List ℕ
-count_text n = spelled word.Accepted ++ (decimal n ++ (10 ∷ []))
+count_text n = codes "accepted " ++ (decimal n ++ (10 ∷ []))
 
 module _ {A B : Type 0} where
   -- the line of row i
@@ -67,11 +64,11 @@ record_in (Book (Record bad)) = Some bad.number
 
 abbrev pub record_text : Option ℕ → List ℕ
 record_text None = []
-record_text (Some n) = spelled word.Record ++ decimal n
+record_text (Some n) = codes " record " ++ decimal n
 
 -- the text of a fault of a load: its number, the record's and the line's end (10)
 unfoldable pub fault_text : LoadFault → List ℕ
-fault_text fault = spelled word.TurnedDown ++ (decimal (load_number fault) ++ (record_text (record_in fault) ++ (10 ∷ [])))
+fault_text fault = codes "turned down " ++ (decimal (load_number fault) ++ (record_text (record_in fault) ++ (10 ∷ [])))
 
 -- the answer of a call that writes a text into a buffer: its length, or a fault if the buffer is shorter than 1292 bytes
 abbrev pub answer_of : List ℕ → List ℕ → Result ℕ ListingFault

@@ -1,9 +1,7 @@
 #![tactic(auto)]
 
 pub mod fault;
-mod line;
 pub mod listing;
+mod page;
 mod refusal;
-mod text;
 mod verdict;
-mod word;

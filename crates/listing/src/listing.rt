@@ -1,14 +1,20 @@
-ghost use Rattle.std.specs.Prelude.{◌≡◌, ◌≤◌, IfOk};
+ghost use Rattle.std.specs.Prelude.{◌≡◌, ℕ, ◌≤◌, List, IfOk};
 ghost use Rattle.listing.specs.Listings.{answer_of, buffer_after, fault_text, rating_text};
 
 use crate::fault::ListingFault;
-use crate::refusal::put_refusal;
-use crate::verdict::put_rating;
+use crate::page::{LONGEST, Page};
 use rating::rating::Rating;
 use rows::fault::LoadFault;
 
-// What the longest listing takes: 32 lines of 40 bytes, and the 12 of `accepted 32`.
-const LONGEST: usize = 1292;
+// What has a listing.
+pub(crate) trait Listed {
+    // its lines
+    ghost text: { Self → List ℕ };
+
+    // The page with its lines.
+    fn page(&self) -> Page
+        ensures { result.bytes.items ≡ text self.now };
+}
 
 // Writes what a rating found: the line of every row and their count, or what is late. Answers the length written; a
 // buffer that might be too short is left as it is.
@@ -17,10 +23,7 @@ pub fn list_rating<A, B>(rating: &Rating<A, B>, out: &mut [u8]) -> Result<usize,
     ensures buffer { out.new ≡ buffer_after (rating_text rating.now) out.old }
     ensures most { IfOk result (λ n. n ≤ 1292) }
 {
-    if out.len() < LONGEST {
-        return Err(ListingFault::ShortBuffer);
-    }
-    Ok(put_rating(out, rating))
+    list(rating, out)
 }
 
 // Writes why a load was turned down. Answers the length written; a buffer that might be too short is left as it is.
@@ -29,8 +32,20 @@ pub fn list_fault(fault: &LoadFault, out: &mut [u8]) -> Result<usize, ListingFau
     ensures buffer { out.new ≡ buffer_after (fault_text fault.now) out.old }
     ensures most { IfOk result (λ n. n ≤ 1292) }
 {
+    list(fault, out)
+}
+
+// Writes the listing of either at the start of a buffer.
+fn list<L: Listed>(listed: &L, out: &mut [u8]) -> Result<usize, ListingFault>
+    ensures value { result ≡ answer_of (L.text listed.now) out.old }
+    ensures buffer { out.new ≡ buffer_after (L.text listed.now) out.old }
+    ensures most { IfOk result (λ n. n ≤ 1292) }
+{
     if out.len() < LONGEST {
         return Err(ListingFault::ShortBuffer);
     }
-    Ok(put_refusal(out, fault))
+    let page = listed.page();
+    let text = page.bytes.as_slice();
+    out[..text.len()].copy_from_slice(text);
+    Ok(text.len())
 }
