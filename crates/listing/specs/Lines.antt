@@ -1,11 +1,12 @@
 use Rattle.std.specs.Prelude.{ℕ, ◌+◌, List, [], ◌∷◌, ◌++◌, decimal}
 use Rattle.listing.specs.Text.{two_digits}
+use Rattle.rows.specs.Rows.{label_bytes}
 use Rattle.rows.specs.declared.row.Label.{Label}
 use Rattle.rows.specs.declared.row.Row.{Row}
 
 -- a label as its four bytes
 abbrev pub label_text : Label → List ℕ
-label_text l = l.first ∷ l.second ∷ l.third ∷ l.fourth ∷ []
+label_text l = label_bytes l
 
 -- the head of a line: the number, a space (32) and the label
 abbrev pub head_of : ℕ → Label → List ℕ

@@ -11,10 +11,8 @@ use Rattle.rating.specs.declared.verdict.Phase.TheVariants.{Memory, Processor}
 use Rattle.rating.specs.declared.verdict.Verdict.{Verdict}
 use Rattle.rating.specs.declared.verdict.Verdict.TheVariants.{Accepted, Late}
 use Rattle.rows.specs.Drafts.{rows_of}
-use Rattle.rows.specs.Faults.{load_number}
-use Rattle.rows.specs.declared.fault.BookFault.TheVariants.{Length, Record}
+use Rattle.rows.specs.Refusals.{refusal_of, refusal_text}
 use Rattle.rows.specs.declared.fault.LoadFault.{LoadFault}
-use Rattle.rows.specs.declared.fault.LoadFault.TheVariants.{Book}
 use Rattle.rows.specs.declared.row.Row.{Row}
 
 -- the line of a row that has bounds
@@ -57,18 +55,9 @@ module _ {A B : Type 0} where
   unfoldable pub rating_text : Rating A B → List ℕ
   rating_text r = verdict_text r (verdict_in r)
 
--- the number of the record that a fault stands in, if there is one
-abbrev pub record_in : LoadFault → Option ℕ
-record_in (Book Length) = None
-record_in (Book (Record bad)) = Some bad.number
-
-abbrev pub record_text : Option ℕ → List ℕ
-record_text None = []
-record_text (Some n) = codes " record " ++ decimal n
-
--- the text of a fault of a load: its number, the record's and the line's end (10)
+-- the text of a fault of a load: its refusal and the line's end (10)
 unfoldable pub fault_text : LoadFault → List ℕ
-fault_text fault = codes "turned down " ++ (decimal (load_number fault) ++ (record_text (record_in fault) ++ (10 ∷ [])))
+fault_text fault = refusal_text (refusal_of fault) ++ (10 ∷ [])
 
 -- the answer of a call that writes a text into a buffer: its length, or a fault if the buffer is shorter than 1292 bytes
 abbrev pub answer_of : List ℕ → List ℕ → Result ℕ ListingFault

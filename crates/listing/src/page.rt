@@ -2,6 +2,7 @@ ghost use Rattle.std.specs.Prelude.{◌≡◌, ◌+◌, ◌<◌, ◌≤◌, [], 
 ghost use Rattle.listing.specs.Lines.{figure, label_text, line_of};
 ghost use Rattle.listing.specs.Listings.{bound_line, count_text};
 ghost use Rattle.listing.specs.Text.{two_digits};
+ghost use Rattle.rows.specs.Refusals.{record_text};
 ghost use Rattle.rows.specs.Rows.{Valid};
 
 use arrayvec::ArrayVec;
@@ -35,6 +36,7 @@ impl Page {
     }
 
     // Puts a number below 100 in two digits.
+    // Stays: there is no heap here, and no contract says that `write!` to fixed memory succeeds where there is room.
     pub(crate) fn put_two_digits(&mut self, n: u8)
         requires { (n < 100) × (length self.old.bytes.items + 2 ≤ 1292) }
         ensures { self.new.bytes.items ≡ self.old.bytes.items ++ two_digits n }
@@ -56,7 +58,7 @@ impl Page {
         requires { length self.old.bytes.items + 4 ≤ 1292 }
         ensures { self.new.bytes.items ≡ self.old.bytes.items ++ label_text label }
     {
-        self.put(&[label.first, label.second, label.third, label.fourth]);
+        self.put(&<[u8; 4]>::from(label));
     }
 
     // Puts a space and a number in decimal.
@@ -99,6 +101,7 @@ impl Page {
             self.put_line(number, row, bounds);
         }
     }
+
     // Puts the last line of an accepted rating, the count of its rows.
     pub(crate) fn put_count(&mut self, rows: usize)
         requires { (rows ≤ 32) × (length self.old.bytes.items + 12 ≤ 1292) }
@@ -107,5 +110,17 @@ impl Page {
         self.put(b"accepted ");
         self.put_decimal(rows);
         self.put(b"\n");
+    }
+
+    // Puts the number of a record, if there is one.
+    pub(crate) fn put_record(&mut self, number: Option<usize>)
+        requires { length self.old.bytes.items + 28 ≤ 1292 }
+        ensures text { self.new.bytes.items ≡ self.old.bytes.items ++ record_text number }
+        ensures most { length self.new.bytes.items ≤ length self.old.bytes.items + 28 }
+    {
+        if let Some(number) = number {
+            self.put(b" record ");
+            self.put_decimal(number);
+        }
     }
 }
