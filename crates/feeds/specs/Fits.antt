@@ -18,12 +18,12 @@ abbrev pub Fitting : View → List Row → Type 0
 Fitting v rows = (k : ℕ) → k < length rows → Meets v k (row_of rows k)
 
 -- the first row that it does not keep, and the letter of its kind
-pub record FirstMisfit (v : View) (initial : ℕ) (rows : List Row) (e : Misfit) : Type 0 where
+pub record FirstMisfit (v : View) (own : ℕ) (rows : List Row) (e : Misfit) : Type 0 where
   pub within : e.row < length rows
   pub before : (k : ℕ) → k < e.row → Meets v k (row_of rows k)
   pub fails : Meets v e.row (row_of rows e.row) → ⊥
-  pub letter : e.letter ≡ initial
+  pub letter : e.letter ≡ own
 
 abbrev pub Fits : View → ℕ → List Row → Result Unit Misfit → Type 0
-Fits v initial rows (Ok _) = Fitting v rows
-Fits v initial rows (Err e) = FirstMisfit v initial rows e
+Fits v letter rows (Ok _) = Fitting v rows
+Fits v letter rows (Err e) = FirstMisfit v letter rows e

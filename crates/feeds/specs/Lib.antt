@@ -3,5 +3,6 @@ pub mod Faults
 pub mod Fits
 pub mod Marks
 pub mod Meanings
+pub mod PerMarks
 pub mod Settings
 pub mod Sheets

@@ -5,6 +5,7 @@ pub mod fault;
 pub mod feed;
 pub mod fit;
 pub mod mark;
+pub mod per_mark;
 pub mod pledge;
 mod setting;
 pub mod sheet;

@@ -6,15 +6,12 @@ use crate::mark::Mark;
 // A pledge: what is promised of the arrivals at each mark. No two of them come closer than the distance, and none costs
 // more than the ceilings. What it shows, and the facts that hold of every pledge, stand in its view.
 pub trait Pledge {
-    // The letter of its kind. A contract can't cite it, so `initial` says it too, and `kind` answers it.
+    // The letter of its kind.
     const LETTER: u8;
 
-    ghost initial: { ℕ };
+    ghost LETTER: { ℕ };
 
     ghost view: { Self → View };
-
-    fn kind(&self) -> u8
-        ensures { result ≡ initial };
 
     // The least number of steps between two arrivals.
     fn distance(&self, k: Mark) -> u32

@@ -20,8 +20,8 @@ impl Clockwork {
     {
         let rows = rating.rows();
         let mut clock = Clockwork::new();
-        for i in 0..rows.len() {
-            clock.start(Mark::at(i), &rows[i]);
+        for (i, row) in rows.iter().enumerate() {
+            clock.start(Mark::at(i), row);
         }
         clock
     }

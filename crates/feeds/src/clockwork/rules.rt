@@ -10,8 +10,6 @@ use crate::mark::Mark;
 use crate::pledge::Pledge;
 use crate::setting;
 
-const LETTER: u8 = b'K';
-
 impl Clockwork {
     // A clockwork with no mark set: each has the highest distance, the lowest ceilings and no arrivals.
     pub fn new() -> Clockwork
@@ -57,15 +55,11 @@ impl Clockwork {
 }
 
 impl Pledge for Clockwork {
-    const LETTER: u8 = LETTER;
+    const LETTER: u8 = b'K';
 
-    ghost initial = { 75 };
+    ghost LETTER = { 75 };
 
     ghost view = { clock_view };
-
-    fn kind(&self) -> u8 {
-        LETTER
-    }
 
     fn distance(&self, k: Mark) -> u32 {
         let i = k.index();

@@ -1,12 +1,15 @@
-ghost use Rattle.std.specs.Prelude.{◌≡◌, ◌<◌};
+ghost use Rattle.std.specs.Prelude.{◌≡◌, ◌<◌, ℕ, slice_index_or};
 ghost use Rattle.feeds.specs.Marks.{MarkMade};
 
 use super::Mark;
 use crate::fault::MarkFault;
+use std::array;
 
-impl Mark {
+impl TryFrom<u8> for Mark {
+    type Error = MarkFault;
+
     // The mark of a number.
-    pub fn new(value: u8) -> Result<Mark, MarkFault>
+    fn try_from(value: u8) -> Result<Mark, MarkFault>
         ensures { MarkMade value result }
     {
         if value < 32 {
@@ -14,6 +17,31 @@ impl Mark {
         } else {
             Err(MarkFault::Above)
         }
+    }
+}
+
+impl From<Mark> for usize {
+    // The number of a mark, to index a table of 32 with.
+    fn from(k: Mark) -> usize
+        ensures { result ≡ k.value }
+    {
+        k.value as usize
+    }
+}
+
+impl Mark {
+    // The mark of a number.
+    pub fn new(value: u8) -> Result<Mark, MarkFault>
+        ensures { MarkMade value result }
+    {
+        Mark::try_from(value)
+    }
+
+    // All marks, from 0 upward.
+    pub fn all() -> [Mark; 32]
+        ensures { (d : Mark) (k : ℕ) → k < 32 → (slice_index_or result k d).value ≡ k }
+    {
+        array::from_fn(Mark::at)
     }
 
     // The mark of a place of a table of 32.
@@ -29,6 +57,6 @@ impl Mark {
         ensures value { result ≡ self.now.value }
         ensures small { result < 32 }
     {
-        self.value as usize
+        usize::from(*self)
     }
 }

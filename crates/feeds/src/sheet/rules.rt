@@ -8,8 +8,6 @@ use crate::mark::Mark;
 use crate::pledge::Pledge;
 use crate::setting;
 
-const LETTER: u8 = b'S';
-
 impl DataSheet {
     // A sheet with no mark set: each has distance 1 and the highest ceilings.
     pub fn new() -> DataSheet
@@ -47,15 +45,11 @@ impl DataSheet {
 }
 
 impl Pledge for DataSheet {
-    const LETTER: u8 = LETTER;
+    const LETTER: u8 = b'S';
 
-    ghost initial = { 83 };
+    ghost LETTER = { 83 };
 
     ghost view = { sheet_view };
-
-    fn kind(&self) -> u8 {
-        LETTER
-    }
 
     fn distance(&self, k: Mark) -> u32 {
         let i = k.index();
