@@ -7,5 +7,5 @@ pub mod fit;
 pub mod mark;
 pub mod per_mark;
 pub mod pledge;
-mod setting;
 pub mod sheet;
+pub mod terms;

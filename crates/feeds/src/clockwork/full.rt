@@ -6,7 +6,7 @@ ghost use Rattle.rating.specs.Ratings.{draft_in};
 ghost use Rattle.rows.specs.Drafts.{rows_of};
 ghost use Rattle.rows.specs.Rows.{Valid};
 
-use super::{Clockwork, Entry};
+use super::Clockwork;
 use crate::mark::Mark;
 use rating::rating::Rating;
 use rows::row::Row;
@@ -32,13 +32,6 @@ impl Clockwork {
         ensures here { Has (entry_of self.new k.value) true 0 row.now.period row.now.memory row.now.compute }
         ensures others { OthersStay self.old k.value self.new }
     {
-        let i = k.index();
-        self.entries[i] = Entry {
-            set: true,
-            rest: 0,
-            interval: row.period,
-            memory: row.memory,
-            processor: row.compute,
-        };
+        let _ = self.set(k, 0, row.period, row.memory, row.compute);
     }
 }

@@ -1,14 +1,28 @@
-ghost use Rattle.std.specs.Prelude.{◌≡◌, ℕ, false, None};
-ghost use Rattle.feeds.specs.Clocks.{ClockAdvanced, ClockSet, ClockTaken, Has, clock_view, entry_of};
+ghost use Rattle.std.specs.Prelude.{◌≡◌, ◌-◌, ℕ, false, None};
+ghost use Rattle.feeds.specs.Clocks.{ClockAdvanced, ClockSet, ClockTaken, Has, clock_view, entry_of, terms_of};
 ghost use Rattle.feeds.specs.Meanings.{Advanced, Taken};
-ghost use Rattle.feeds.specs.Settings.{timing_checked};
+ghost use Rattle.feeds.specs.Settings.{Figures, timing_checked};
 
-use super::{Clockwork, Entry};
+use super::{Beat, Clockwork};
 use crate::fault::SettingFault;
 use crate::feed::Feed;
 use crate::mark::Mark;
+use crate::per_mark::PerMark;
 use crate::pledge::Pledge;
-use crate::setting;
+use crate::terms::{Ceilings, Distance, Terms};
+
+impl Beat {
+    // The same arrivals one step later.
+    fn later(self) -> Beat
+        ensures rest { result.rest ≡ self.rest - 1 }
+        ensures terms { result.terms ≡ self.terms }
+    {
+        Beat {
+            rest: self.rest.saturating_sub(1),
+            ..self
+        }
+    }
+}
 
 impl Clockwork {
     // A clockwork with no mark set: each has the highest distance, the lowest ceilings and no arrivals.
@@ -16,13 +30,7 @@ impl Clockwork {
         ensures { (k : ℕ) → Has (entry_of result k) false 0 1000000 0 1 }
     {
         Clockwork {
-            entries: [Entry {
-                set: false,
-                rest: 0,
-                interval: 1_000_000,
-                memory: 0,
-                processor: 1,
-            }; 32],
+            entries: PerMark::new(None),
         }
     }
 
@@ -41,16 +49,28 @@ impl Clockwork {
         if offset > 1_000_000 {
             return Err(SettingFault::Offset);
         }
-        setting::check(interval, memory, processor)?;
-        let i = k.index();
-        self.entries[i] = Entry {
-            set: true,
-            rest: offset,
-            interval,
-            memory,
-            processor,
-        };
+        let terms = Terms::new(interval, memory, processor)?;
+        self.entries.set(
+            k,
+            Some(Beat {
+                rest: offset,
+                terms,
+            }),
+        );
         Ok(())
+    }
+
+    // The terms of a mark, set or not.
+    fn terms(&self, k: Mark) -> Terms
+        ensures { Figures result (terms_of (entry_of self.now k.value)).distance.steps (terms_of (entry_of self.now k.value)).ceilings.memory (terms_of (entry_of self.now k.value)).ceilings.processor }
+    {
+        match self.entries.get(k) {
+            Some(beat) => beat.terms,
+            None => Terms {
+                distance: Distance::GREATEST,
+                ceilings: Ceilings::LOWEST,
+            },
+        }
     }
 }
 
@@ -62,27 +82,23 @@ impl Pledge for Clockwork {
     ghost view = { clock_view };
 
     fn distance(&self, k: Mark) -> u32 {
-        let i = k.index();
-        self.entries[i].interval
+        self.terms(k).distance.steps()
     }
 
     fn memory_ceiling(&self, k: Mark) -> u32 {
-        let i = k.index();
-        self.entries[i].memory
+        self.terms(k).ceilings.memory()
     }
 
     fn processor_ceiling(&self, k: Mark) -> u32 {
-        let i = k.index();
-        self.entries[i].processor
+        self.terms(k).ceilings.processor()
     }
 }
 
 impl Feed for Clockwork {
     fn look(&self, k: Mark) -> Option<(u32, u32)> {
-        let i = k.index();
-        let e = self.entries[i];
-        if e.set && e.rest == 0 {
-            Some((e.memory, e.processor))
+        let Beat { rest, terms } = self.entries.get(k)?;
+        if rest == 0 {
+            Some((terms.ceilings.memory(), terms.ceilings.processor()))
         } else {
             None
         }
@@ -94,8 +110,14 @@ impl Feed for Clockwork {
         ensures entries { ClockTaken self.old k.value self.new }
     {
         let offer = self.look(k)?;
-        let i = k.index();
-        self.entries[i].rest = self.distance(k);
+        let terms = self.terms(k);
+        self.entries.set(
+            k,
+            Some(Beat {
+                rest: terms.distance.steps(),
+                terms,
+            }),
+        );
         Some(offer)
     }
 
@@ -103,11 +125,6 @@ impl Feed for Clockwork {
         ensures advanced { Advanced (clock_view self.old) (clock_view self.new) }
         ensures entries { ClockAdvanced self.old self.new }
     {
-        for i in 0..32 {
-            let e = self.entries[i];
-            if e.rest > 0 {
-                self.entries[i].rest = e.rest - 1;
-            }
-        }
+        self.entries.update(|entry| entry.map(Beat::later));
     }
 }

@@ -1,24 +1,24 @@
 ghost use Rattle.std.specs.Prelude.{◌≡◌, ℕ};
-ghost use Rattle.feeds.specs.Settings.{setting_checked};
-ghost use Rattle.feeds.specs.Sheets.{Has, SheetSet, entry_of, sheet_view};
+ghost use Rattle.feeds.specs.Settings.{Figures, setting_checked};
+ghost use Rattle.feeds.specs.Sheets.{SheetSet, entry_of, sheet_view};
 
-use super::{DataSheet, Entry};
+use super::DataSheet;
 use crate::fault::SettingFault;
 use crate::mark::Mark;
+use crate::per_mark::PerMark;
 use crate::pledge::Pledge;
-use crate::setting;
+use crate::terms::{Ceilings, Distance, Terms};
 
 impl DataSheet {
     // A sheet with no mark set: each has distance 1 and the highest ceilings.
     pub fn new() -> DataSheet
-        ensures { (k : ℕ) → Has (entry_of result k) 1 1000000 1000000 }
+        ensures { (k : ℕ) → Figures (entry_of result k) 1 1000000 1000000 }
     {
         DataSheet {
-            entries: [Entry {
-                distance: 1,
-                memory: 1_000_000,
-                processor: 1_000_000,
-            }; 32],
+            entries: PerMark::new(Terms {
+                distance: Distance::LEAST,
+                ceilings: Ceilings::HIGHEST,
+            }),
         }
     }
 
@@ -33,13 +33,8 @@ impl DataSheet {
         ensures answer { result ≡ setting_checked distance memory processor }
         ensures set { SheetSet self.old k.value distance memory processor result self.new }
     {
-        setting::check(distance, memory, processor)?;
-        let i = k.index();
-        self.entries[i] = Entry {
-            distance,
-            memory,
-            processor,
-        };
+        let terms = Terms::new(distance, memory, processor)?;
+        self.entries.set(k, terms);
         Ok(())
     }
 }
@@ -52,17 +47,14 @@ impl Pledge for DataSheet {
     ghost view = { sheet_view };
 
     fn distance(&self, k: Mark) -> u32 {
-        let i = k.index();
-        self.entries[i].distance
+        self.entries.get(k).distance.steps()
     }
 
     fn memory_ceiling(&self, k: Mark) -> u32 {
-        let i = k.index();
-        self.entries[i].memory
+        self.entries.get(k).ceilings.memory()
     }
 
     fn processor_ceiling(&self, k: Mark) -> u32 {
-        let i = k.index();
-        self.entries[i].processor
+        self.entries.get(k).ceilings.processor()
     }
 }

@@ -1,11 +1,11 @@
-use Rattle.std.proofs.Common.{false, refl}
-use Rattle.feeds.specs.Clocks.{Has, unset}
-use Rattle.feeds.proofs.Tables.{each}
+use Rattle.std.proofs.Common.{None, false, refl}
+use Rattle.feeds.proofs.PerMarks.{everywhere}
+use Rattle.feeds.specs.Clocks.{Has}
 use Rattle.feeds.proofs.clockwork.Clockwork.new.Goals as goal
 
--- the default of a read past the table is an unset entry too
+-- the default of a read past the last mark is that of a mark that was never set
 pub returns : goal.returns
 returns c =
-    each (λ e. Has e false 0 1000000 0 1) 32 _ unset
+    everywhere (λ e. Has e false 0 1000000 0 1) None None c.new.result c.new.ensures
     (record { set = refl; rest = refl; interval = refl; memory = refl; processor = refl })
     (record { set = refl; rest = refl; interval = refl; memory = refl; processor = refl })

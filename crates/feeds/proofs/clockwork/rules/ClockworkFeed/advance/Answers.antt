@@ -1,15 +1,15 @@
-use Rattle.std.proofs.Common.{◌-◌, refl, arith}
-use Rattle.feeds.specs.Clocks.{ClockAdvanced, Rests, unset}
-use Rattle.feeds.proofs.Tables.{every}
+use Rattle.std.proofs.Common.{None, ◌-◌, refl, rules}
+use Rattle.feeds.proofs.PerMarks.{at_all}
+use Rattle.feeds.specs.Clocks.{ClockAdvanced, Rests, rest_of}
 use Rattle.feeds.proofs.clockwork.rules.ClockworkFeed.advance.Goals as goal
 
--- past the table an unset entry rests at 0 before and after
+-- past the last mark there is nothing before and after
 pub returns : goal.returns
 returns c =
-    let low : ClockAdvanced c.args.self.now c.loop-i.self =
-    every (λ e f. Rests e (e.rest - 1) f) 32 c.args.self.now.entries c.loop-i.self.entries unset c.args.self.now.full c.loop-i.self.full
+    let low : ClockAdvanced c.args.self.now (record { entries = c.update.new.self }) =
+    at_all (λ e f. Rests e (rest_of e - 1) f) None c.args.self.now.entries c.update.new.self
     (record { set = refl; rest = refl; interval = refl; memory = refl; processor = refl })
-    (λ k h. c.loop-i.invariant.0 k (omega arith)) in
+    (λ k h. let p = c.update.ensures None k h in search rules) in
     record {
       advanced = record { rested = λ j. (low j).rest; kept = record { distance = λ j. (low j).interval; memory = λ j. (low j).memory; processor = λ j. (low j).processor } };
       entries = low;
