@@ -1,21 +1,21 @@
-use Rattle.std.specs.Prelude.{◌≡◌, ℕ, min, cond, ◌&&◌, Some, None, Ok, Err, Option, Result, ◌≢◌, nat_le, nat_lt, slice_index_or}
+use Rattle.std.specs.Prelude.{◌≡◌, ℕ, min, Some, None, Ok, Err, Option, Result}
 use Rattle.std.proofs.Common.{lit≤, arith}
 use Rattle.feeds.specs.Meanings.{Advanced, Offered, Taken, View}
-use Rattle.layers.specs.declared.cutoff.Cut.{Cut}
+use Rattle.feeds.specs.PerMarks.{OthersKept, at_mark}
 use Rattle.layers.specs.declared.cutoff.CutOff.{CutOff}
 use Rattle.feeds.specs.declared.fault.SettingFault.{SettingFault}
-use Rattle.feeds.specs.declared.fault.SettingFault.TheVariants.{Memory, Processor}
+use Rattle.feeds.specs.declared.terms.Ceilings.{Ceilings}
 
 -- the cut of a mark that was never set
-abbrev pub uncut : Cut
+abbrev pub uncut : Ceilings
 uncut = record { memory = 1000000; processor = 1000000; memories = lit≤ tt; processors = (lit≤ tt, lit≤ tt) }
 
 -- the cut-off's own cut at mark k
-abbrev pub cut : {F : Type 0} → CutOff F → ℕ → Cut
-cut x k = slice_index_or x.cuts.entries k uncut
+abbrev pub cut : {F : Type 0} → CutOff F → ℕ → Ceilings
+cut x = at_mark uncut x.cuts
 
 -- a cut has the ceilings m and c
-pub record Capped (e : Cut) (m c : ℕ) : Type 0 where
+pub record Capped (e : Ceilings) (m c : ℕ) : Type 0 where
   pub memory : e.memory ≡ m
   pub processor : e.processor ≡ c
 
@@ -24,16 +24,11 @@ pub record CutOffMade {F : Type 0} (f : F) (y : CutOff F) : Type 0 where
   pub below : y.below ≡ f
   pub cuts : (k : ℕ) → Capped (cut y k) 1000000 1000000
 
--- the memory ceiling is at most 1,000,000, the processor ceiling from 1 to 1,000,000, or the first that isn't is refused
-abbrev pub ceilings_checked : ℕ → ℕ → Result Unit SettingFault
-ceilings_checked memory processor =
-    cond (nat_lt 1000000 memory) (Err Memory) (cond (nat_le 1 processor && nat_le processor 1000000) (Ok tt) (Err Processor))
-
 -- setting the ceilings of mark k leaves every other mark
 pub record CeilingsSet {F : Type 0} (x : CutOff F) (k memory processor : ℕ) (y : CutOff F) : Type 0 where
   pub below : y.below ≡ x.below
   pub here : Capped (cut y k) memory processor
-  pub others : (j : ℕ) → (j ≢ k) → cut y j ≡ cut x j
+  pub others : OthersKept uncut x.cuts k y.cuts
 
 -- ceilings are set, or nothing is altered
 abbrev pub CutOffSet : {F : Type 0} → CutOff F → ℕ → ℕ → ℕ → Result Unit SettingFault → CutOff F → Type 0
@@ -41,19 +36,19 @@ CutOffSet x k memory processor (Ok _) y = CeilingsSet x k memory processor y
 CutOffSet x k memory processor (Err _) y = y ≡ x
 
 -- what a cut leaves of an offer: the smaller figures
-abbrev pub trimmed : Cut → Option (ℕ × ℕ) → Option (ℕ × ℕ)
+abbrev pub trimmed : Ceilings → Option (ℕ × ℕ) → Option (ℕ × ℕ)
 trimmed e None = None
 trimmed e (Some p) = Some (min e.memory p.0, min e.processor p.1)
 
 -- what is left keeps to the smaller ceilings
-pub trimmed-offered : (e : Cut) (o : Option (ℕ × ℕ)) (rest memory processor : ℕ) → Offered o rest memory processor →
+pub trimmed-offered : (e : Ceilings) (o : Option (ℕ × ℕ)) (rest memory processor : ℕ) → Offered o rest memory processor →
     Offered (trimmed e o) rest (min e.memory memory) (min e.processor processor)
 trimmed-offered e None rest memory processor h = tt
 trimmed-offered e (Some p) rest memory processor h =
     (h.0, omega (arith, h.1), omega (arith, h.2, e.processors), omega (arith, h.3))
 
 -- what cuts show over what is below: the smaller figures and the smaller ceilings
-abbrev pub trimming : (ℕ → Cut) → View → View
+abbrev pub trimming : (ℕ → Ceilings) → View → View
 trimming e v = record {
   distance = v.distance;
   memory = λ k. min (e k).memory (v.memory k);

@@ -1,43 +1,39 @@
-use Rattle.std.specs.Prelude.{◌≡◌, ℕ, ◌-◌, max, cond, ◌&&◌, Some, None, Ok, Err, Option, Result, ◌==◌, ◌≢◌, nat_le, slice_index_or}
+use Rattle.std.specs.Prelude.{◌≡◌, ℕ, ◌-◌, max, cond, Some, None, Ok, Err, Option, Result, ◌==◌}
 use Rattle.std.proofs.Common.{lit≤, arith}
 use Rattle.std.proofs.lemmas.Bool.{cond_both, eqb-true}
 use Rattle.feeds.specs.Meanings.{Advanced, Offered, Taken, View}
 use Rattle.feeds.specs.declared.fault.SettingFault.{SettingFault}
-use Rattle.feeds.specs.declared.fault.SettingFault.TheVariants.{Distance}
+use Rattle.feeds.specs.PerMarks.{OthersKept, at_mark}
 use Rattle.layers.specs.declared.gate.Gate.{Gate}
 use Rattle.layers.specs.declared.gate.Spacing.{Spacing}
 
 -- the spacing of a mark that was never set
 abbrev pub fresh : Spacing
-fresh = record { distance = 1; rest = 0; range = (lit≤ tt, lit≤ tt) }
+fresh = record { distance = record { steps = 1; range = (lit≤ tt, lit≤ tt) }; rest = 0 }
 
 -- the gate's own spacing at mark k
 abbrev pub spacing : {F : Type 0} → Gate F → ℕ → Spacing
-spacing x k = slice_index_or x.spacings.entries k fresh
+spacing x = at_mark fresh x.spacings
 
 -- a spacing has distance d and rest r
 pub record Spaced (e : Spacing) (d r : ℕ) : Type 0 where
-  pub distance : e.distance ≡ d
+  pub distance : e.distance.steps ≡ d
   pub rest : e.rest ≡ r
 
 -- f is e one step later
 abbrev pub Lowered : Spacing → Spacing → Type 0
-Lowered e f = Spaced f e.distance (e.rest - 1)
+Lowered e f = Spaced f e.distance.steps (e.rest - 1)
 
 -- a new gate stands open over f
 pub record GateMade {F : Type 0} (f : F) (y : Gate F) : Type 0 where
   pub below : y.below ≡ f
   pub spacings : (k : ℕ) → Spaced (spacing y k) 1 0
 
--- a distance is from 1 to 1,000,000, or it is refused
-abbrev pub distance_checked : ℕ → Result Unit SettingFault
-distance_checked distance = cond (nat_le 1 distance && nat_le distance 1000000) (Ok tt) (Err Distance)
-
 -- setting the distance of mark k leaves its rest, and every other mark
 pub record DistanceSet {F : Type 0} (x : Gate F) (k distance : ℕ) (y : Gate F) : Type 0 where
   pub below : y.below ≡ x.below
   pub here : Spaced (spacing y k) distance (spacing x k).rest
-  pub others : (j : ℕ) → (j ≢ k) → spacing y j ≡ spacing x j
+  pub others : OthersKept fresh x.spacings k y.spacings
 
 -- a distance is set, or nothing is altered
 abbrev pub GateSet : {F : Type 0} → Gate F → ℕ → ℕ → Result Unit SettingFault → Gate F → Type 0
@@ -60,12 +56,12 @@ passed-offered own (Some p) rest memory processor h =
 -- what spacings show over what is below: the greater distance and the greater rest
 abbrev pub gated : (ℕ → Spacing) → View → View
 gated e v = record {
-  distance = λ k. max (e k).distance (v.distance k);
+  distance = λ k. max (e k).distance.steps (v.distance k);
   memory = v.memory;
   processor = v.processor;
   rest = λ k. max (e k).rest (v.rest k);
   offer = λ k. passed (e k).rest (v.offer k);
-  distances = λ k. (omega (arith, v.distances k), omega (arith, v.distances k, (e k).range));
+  distances = λ k. (omega (arith, v.distances k), omega (arith, v.distances k, (e k).distance.range));
   memories = v.memories;
   processors = v.processors;
   offers = λ k. passed-offered (e k).rest (v.offer k) (v.rest k) (v.memory k) (v.processor k) (v.offers k);
@@ -79,8 +75,8 @@ gate_view view x = gated (spacing x) (view x.below)
 -- their spacing.
 pub record PassageTaken {F : Type 0} (view : F → View) (x : Gate F) (k : ℕ) (p : ℕ × ℕ) (y : Gate F) : Type 0 where
   pub below : Taken (view x.below) k (Some p) (view y.below)
-  pub here : Spaced (spacing y k) (spacing x k).distance (spacing x k).distance
-  pub others : (j : ℕ) → (j ≢ k) → spacing y j ≡ spacing x j
+  pub here : Spaced (spacing y k) (spacing x k).distance.steps (spacing x k).distance.steps
+  pub others : OthersKept fresh x.spacings k y.spacings
 
 -- an arrival is taken, or nothing is altered
 abbrev pub GateTaken : {F : Type 0} → (F → View) → Gate F → ℕ → Option (ℕ × ℕ) → Gate F → Type 0

@@ -1,23 +1,22 @@
-ghost use Rattle.layers.specs.Cuts.{CutOffAdvanced, CutOffMade, CutOffSet, CutOffTaken, ceilings_checked, cut_off_view, trimmed};
+ghost use Rattle.layers.specs.Cuts.{CutOffAdvanced, CutOffMade, CutOffSet, CutOffTaken, cut_off_view, trimmed};
 ghost use Rattle.feeds.specs.Meanings.{Advanced, Taken};
+ghost use Rattle.feeds.specs.Settings.{ceilings_checked};
 ghost use Rattle.std.specs.Prelude.{◌≡◌, None};
 
-use super::{Cut, CutOff, Cuts};
+use super::CutOff;
 use feeds::fault::SettingFault;
 use feeds::feed::Feed;
 use feeds::mark::Mark;
+use feeds::per_mark::PerMark;
 use feeds::pledge::Pledge;
+use feeds::terms::Ceilings;
 
-const INITIAL: u8 = b'C';
-
-impl Cut {
-    // What is left of an offer.
-    fn trim(self, offer: Option<(u32, u32)>) -> Option<(u32, u32)>
-        ensures { result ≡ trimmed self offer }
-    {
-        let (memory, processor) = offer?;
-        Some((self.memory.min(memory), self.processor.min(processor)))
-    }
+// What ceilings leave of an offer.
+fn trim(own: Ceilings, offer: Option<(u32, u32)>) -> Option<(u32, u32)>
+    ensures { result ≡ trimmed own offer }
+{
+    let (memory, processor) = offer?;
+    Some((own.memory().min(memory), own.processor().min(processor)))
 }
 
 impl<F: Feed> CutOff<F> {
@@ -27,12 +26,7 @@ impl<F: Feed> CutOff<F> {
     {
         CutOff {
             below,
-            cuts: Cuts {
-                entries: [Cut {
-                    memory: 1_000_000,
-                    processor: 1_000_000,
-                }; 32],
-            },
+            cuts: PerMark::new(Ceilings::HIGHEST),
         }
     }
 
@@ -41,13 +35,8 @@ impl<F: Feed> CutOff<F> {
         ensures answered { result ≡ ceilings_checked memory processor }
         ensures done { CutOffSet self.old k.value memory processor result self.new }
     {
-        if memory > 1_000_000 {
-            return Err(SettingFault::Memory);
-        }
-        if processor < 1 || processor > 1_000_000 {
-            return Err(SettingFault::Processor);
-        }
-        self.cuts.entries[k.index()] = Cut { memory, processor };
+        let ceilings = Ceilings::new(memory, processor)?;
+        self.cuts.set(k, ceilings);
         Ok(())
     }
 
@@ -61,35 +50,30 @@ impl<F: Feed> CutOff<F> {
 }
 
 impl<F: Feed> Pledge for CutOff<F> {
-    const LETTER: u8 = INITIAL;
+    const LETTER: u8 = b'C';
 
-    ghost initial = { 67 };
+    ghost LETTER = { 67 };
 
     ghost view = { cut_off_view F.Pledge.view };
-
-    fn kind(&self) -> u8 {
-        INITIAL
-    }
 
     fn distance(&self, k: Mark) -> u32 {
         self.below.distance(k)
     }
 
     fn memory_ceiling(&self, k: Mark) -> u32 {
-        let own = self.cuts.entries[k.index()];
-        own.memory.min(self.below.memory_ceiling(k))
+        let own = self.cuts.get(k);
+        own.memory().min(self.below.memory_ceiling(k))
     }
 
     fn processor_ceiling(&self, k: Mark) -> u32 {
-        let own = self.cuts.entries[k.index()];
-        own.processor.min(self.below.processor_ceiling(k))
+        let own = self.cuts.get(k);
+        own.processor().min(self.below.processor_ceiling(k))
     }
 }
 
 impl<F: Feed> Feed for CutOff<F> {
     fn look(&self, k: Mark) -> Option<(u32, u32)> {
-        let own = self.cuts.entries[k.index()];
-        own.trim(self.below.look(k))
+        trim(self.cuts.get(k), self.below.look(k))
     }
 
     // Only the feed below is altered.
@@ -98,8 +82,7 @@ impl<F: Feed> Feed for CutOff<F> {
         ensures idle { (cut_off_view F.Pledge.view self.old).offer k.value ≡ None → self.new ≡ self.old }
         ensures parts { CutOffTaken F.Pledge.view self.old k.value self.new }
     {
-        let own = self.cuts.entries[k.index()];
-        own.trim(self.below.take(k))
+        trim(self.cuts.get(k), self.below.take(k))
     }
 
     fn advance(&mut self)

@@ -1,22 +1,34 @@
-ghost use Rattle.std.specs.Prelude.{◌≡◌, ℕ, None, slice_index_or};
-ghost use Rattle.layers.specs.Gates.{GateAdvanced, GateMade, GateSet, GateTaken, Lowered, distance_checked, fresh, gate_view};
+ghost use Rattle.std.specs.Prelude.{◌≡◌, None};
+ghost use Rattle.layers.specs.Gates.{GateAdvanced, GateMade, GateSet, GateTaken, Lowered, Spaced, gate_view};
 ghost use Rattle.feeds.specs.Meanings.{Advanced, Taken};
+ghost use Rattle.feeds.specs.Settings.{distance_checked};
 
-use super::{Gate, Spacing, Spacings};
+use super::{Gate, Spacing};
 use feeds::fault::SettingFault;
 use feeds::feed::Feed;
 use feeds::mark::Mark;
+use feeds::per_mark::PerMark;
 use feeds::pledge::Pledge;
+use feeds::terms::Distance;
 
-const INITIAL: u8 = b'G';
-
-impl Spacings {
-    // Lowers every rest above 0 by one.
-    fn lower(&mut self)
-        ensures { (k : ℕ) → Lowered (slice_index_or self.old.entries k fresh) (slice_index_or self.new.entries k fresh) }
+impl Spacing {
+    // The same spacing one step later.
+    fn later(self) -> Spacing
+        ensures { Lowered self result }
     {
-        for own in &mut self.entries {
-            own.rest = own.rest.saturating_sub(1);
+        Spacing {
+            rest: self.rest.saturating_sub(1),
+            ..self
+        }
+    }
+
+    // The same distance, for which it stays shut.
+    fn shut(self) -> Spacing
+        ensures { Spaced result self.distance.steps self.distance.steps }
+    {
+        Spacing {
+            rest: self.distance.steps(),
+            ..self
         }
     }
 }
@@ -28,12 +40,10 @@ impl<F: Feed> Gate<F> {
     {
         Gate {
             below,
-            spacings: Spacings {
-                entries: [Spacing {
-                    distance: 1,
-                    rest: 0,
-                }; 32],
-            },
+            spacings: PerMark::new(Spacing {
+                distance: Distance::LEAST,
+                rest: 0,
+            }),
         }
     }
 
@@ -42,10 +52,9 @@ impl<F: Feed> Gate<F> {
         ensures answered { result ≡ distance_checked distance }
         ensures done { GateSet self.old k.value distance result self.new }
     {
-        if distance < 1 || distance > 1_000_000 {
-            return Err(SettingFault::Distance);
-        }
-        self.spacings.entries[k.index()].distance = distance;
+        let distance = Distance::new(distance)?;
+        let own = self.spacings.get(k);
+        self.spacings.set(k, Spacing { distance, ..own });
         Ok(())
     }
 
@@ -59,19 +68,15 @@ impl<F: Feed> Gate<F> {
 }
 
 impl<F: Feed> Pledge for Gate<F> {
-    const LETTER: u8 = INITIAL;
+    const LETTER: u8 = b'G';
 
-    ghost initial = { 71 };
+    ghost LETTER = { 71 };
 
     ghost view = { gate_view F.Pledge.view };
 
-    fn kind(&self) -> u8 {
-        INITIAL
-    }
-
     fn distance(&self, k: Mark) -> u32 {
-        let own = self.spacings.entries[k.index()];
-        own.distance.max(self.below.distance(k))
+        let own = self.spacings.get(k);
+        own.distance.steps().max(self.below.distance(k))
     }
 
     fn memory_ceiling(&self, k: Mark) -> u32 {
@@ -85,7 +90,7 @@ impl<F: Feed> Pledge for Gate<F> {
 
 impl<F: Feed> Feed for Gate<F> {
     fn look(&self, k: Mark) -> Option<(u32, u32)> {
-        let own = self.spacings.entries[k.index()];
+        let own = self.spacings.get(k);
         if own.rest == 0 {
             self.below.look(k)
         } else {
@@ -99,12 +104,12 @@ impl<F: Feed> Feed for Gate<F> {
         ensures idle { (gate_view F.Pledge.view self.old).offer k.value ≡ None → self.new ≡ self.old }
         ensures parts { GateTaken F.Pledge.view self.old k.value result self.new }
     {
-        let own = self.spacings.entries[k.index()];
+        let own = self.spacings.get(k);
         if own.rest > 0 {
             return None;
         }
         let arrival = self.below.take(k)?;
-        self.spacings.entries[k.index()].rest = own.distance;
+        self.spacings.set(k, own.shut());
         Some(arrival)
     }
 
@@ -113,6 +118,6 @@ impl<F: Feed> Feed for Gate<F> {
         ensures parts { GateAdvanced F.Pledge.view self.old self.new }
     {
         self.below.advance();
-        self.spacings.lower();
+        self.spacings.update(Spacing::later);
     }
 }

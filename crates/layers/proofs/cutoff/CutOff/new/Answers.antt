@@ -1,11 +1,11 @@
 use Rattle.std.proofs.Common.{refl}
-use Rattle.feeds.proofs.Tables.{each}
+use Rattle.feeds.proofs.PerMarks.{everywhere}
 use Rattle.layers.specs.Cuts.{Capped, uncut}
 use Rattle.layers.proofs.cutoff.CutOff.new.Goals as goal
 
--- every entry, and the default past the end, has the two ceilings 1,000,000
+-- every mark, and the default past the last, has the two ceilings 1,000,000
 pub returns : goal.returns
 returns g c = record {
   below = refl;
-  cuts = each (λ e. Capped e 1000000 1000000) 32 _ uncut (record { memory = refl; processor = refl }) (record { memory = refl; processor = refl });
+  cuts = everywhere (λ e. Capped e 1000000 1000000) uncut _ c.new.result c.new.ensures (record { memory = refl; processor = refl }) (record { memory = refl; processor = refl });
 }

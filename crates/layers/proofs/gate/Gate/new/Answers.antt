@@ -1,11 +1,11 @@
 use Rattle.std.proofs.Common.{refl}
-use Rattle.feeds.proofs.Tables.{each}
+use Rattle.feeds.proofs.PerMarks.{everywhere}
 use Rattle.layers.specs.Gates.{Spaced, fresh}
 use Rattle.layers.proofs.gate.Gate.new.Goals as goal
 
--- every entry, and the default past the end, has distance 1 and rest 0
+-- every mark, and the default past the last, has distance 1 and rest 0
 pub returns : goal.returns
 returns g c = record {
   below = refl;
-  spacings = each (λ e. Spaced e 1 0) 32 _ fresh (record { distance = refl; rest = refl }) (record { distance = refl; rest = refl });
+  spacings = everywhere (λ e. Spaced e 1 0) fresh _ c.new.result c.new.ensures (record { distance = refl; rest = refl }) (record { distance = refl; rest = refl });
 }
