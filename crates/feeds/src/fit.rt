@@ -27,13 +27,13 @@ impl Misfit {
 // Whether a pledge fits a rating: for every row its distance is at least the row's period, and its ceilings are at most
 // the row's costs. Uses up neither.
 pub fn fit<A, B, P: Pledge>(rating: &Rating<A, B>, pledge: &P) -> Result<(), Misfit>
-    ensures { Fits (P.Pledge.view pledge.now) P.Pledge.LETTER (rows_of (draft_in rating.now)) result }
+    ensures { Fits (P.Pledge.view pledge.now) P.Pledge.initial (rows_of (draft_in rating.now)) result }
 {
     for (i, row) in rating.rows().iter().enumerate() {
         if !meets(pledge, Mark::at(i), row) {
             return Err(Misfit {
                 row: i as u8,
-                letter: P::LETTER,
+                letter: pledge.kind(),
             });
         }
     }

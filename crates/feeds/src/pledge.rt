@@ -6,12 +6,16 @@ use crate::mark::Mark;
 // A pledge: what is promised of the arrivals at each mark. No two of them come closer than the distance, and none costs
 // more than the ceilings. What it shows, and the facts that hold of every pledge, stand in its view.
 pub trait Pledge {
-    // The letter of its kind.
+    // The letter of its kind; `initial` says it in contracts, and `kind` answers it.
+    // Stays: tried, and not proved: an impl with a lifetime, that of a list, can't give a `ghost LETTER` to this constant.
     const LETTER: u8;
 
-    ghost LETTER: { ℕ };
+    ghost initial: { ℕ };
 
     ghost view: { Self → View };
+
+    fn kind(&self) -> u8
+        ensures { result ≡ initial };
 
     // The least number of steps between two arrivals.
     fn distance(&self, k: Mark) -> u32

@@ -77,9 +77,13 @@ impl Clockwork {
 impl Pledge for Clockwork {
     const LETTER: u8 = b'K';
 
-    ghost LETTER = { 75 };
+    ghost initial = { 75 };
 
     ghost view = { clock_view };
+
+    fn kind(&self) -> u8 {
+        Self::LETTER
+    }
 
     fn distance(&self, k: Mark) -> u32 {
         self.terms(k).distance.steps()

@@ -42,9 +42,13 @@ impl DataSheet {
 impl Pledge for DataSheet {
     const LETTER: u8 = b'S';
 
-    ghost LETTER = { 83 };
+    ghost initial = { 83 };
 
     ghost view = { sheet_view };
+
+    fn kind(&self) -> u8 {
+        Self::LETTER
+    }
 
     fn distance(&self, k: Mark) -> u32 {
         self.entries.get(k).distance.steps()

@@ -11,6 +11,9 @@ use feeds::per_mark::PerMark;
 use feeds::pledge::Pledge;
 use feeds::terms::Ceilings;
 
+// Stays: tried, and not proved: what `Self::LETTER` is in an impl over any feed.
+const INITIAL: u8 = b'C';
+
 // What ceilings leave of an offer.
 fn trim(own: Ceilings, offer: Option<(u32, u32)>) -> Option<(u32, u32)>
     ensures { result ≡ trimmed own offer }
@@ -50,11 +53,15 @@ impl<F: Feed> CutOff<F> {
 }
 
 impl<F: Feed> Pledge for CutOff<F> {
-    const LETTER: u8 = b'C';
+    const LETTER: u8 = INITIAL;
 
-    ghost LETTER = { 67 };
+    ghost initial = { 67 };
 
     ghost view = { cut_off_view F.Pledge.view };
+
+    fn kind(&self) -> u8 {
+        INITIAL
+    }
 
     fn distance(&self, k: Mark) -> u32 {
         self.below.distance(k)

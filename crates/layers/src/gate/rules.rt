@@ -11,6 +11,9 @@ use feeds::per_mark::PerMark;
 use feeds::pledge::Pledge;
 use feeds::terms::Distance;
 
+// Stays: tried, and not proved: what `Self::LETTER` is in an impl over any feed.
+const INITIAL: u8 = b'G';
+
 impl Spacing {
     // The same spacing one step later.
     fn later(self) -> Spacing
@@ -68,11 +71,15 @@ impl<F: Feed> Gate<F> {
 }
 
 impl<F: Feed> Pledge for Gate<F> {
-    const LETTER: u8 = b'G';
+    const LETTER: u8 = INITIAL;
 
-    ghost LETTER = { 71 };
+    ghost initial = { 71 };
 
     ghost view = { gate_view F.Pledge.view };
+
+    fn kind(&self) -> u8 {
+        INITIAL
+    }
 
     fn distance(&self, k: Mark) -> u32 {
         let own = self.spacings.get(k);
