@@ -20,7 +20,7 @@ pub record State : Type 0 where
 pub record Showing (bs : List ℕ) (k d : ℕ) (x : Gate Listed) (s : State) : Type 0 where
   pub bytes : x.below.bytes.now ≡ bs
   pub count : x.below.count ≡ sound_count bs
-  pub distance : (spacing x k).distance ≡ d
+  pub distance : (spacing x k).distance.steps ≡ d
   pub own : (spacing x k).rest ≡ s.own
   pub rest : rest_of x.below k ≡ s.rest
   pub clock : x.below.clock ≡ s.clock

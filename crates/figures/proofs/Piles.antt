@@ -17,7 +17,7 @@ is_pledged f = eqb (max f.upper (max f.lower 1)) f.pledged
 gates_right : (f : Gates) → is_pledged f ≡ true → GatesRight f
 gates_right f e = record {
   distance = λ x k l u.
-      ap (λ (n : ℕ). max n (max (spacing x.below k).distance 1)) u ∙ ap (λ (n : ℕ). max f.upper (max n 1)) l
+      ap (λ (n : ℕ). max n (max (spacing x.below k).distance.steps 1)) u ∙ ap (λ (n : ℕ). max f.upper (max n 1)) l
       ∙ eqb-true (max f.upper (max f.lower 1)) f.pledged e;
 }
 

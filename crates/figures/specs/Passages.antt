@@ -12,7 +12,7 @@ pub record Gates : Type 0 where
   pub pledged : ℕ
 
 pub record GatesRight (f : Gates) : Type 0 where
-  pub distance : (x : Gate (Gate Listed)) (k : ℕ) → (spacing x.below k).distance ≡ f.lower → (spacing x k).distance ≡ f.upper
+  pub distance : (x : Gate (Gate Listed)) (k : ℕ) → (spacing x.below k).distance.steps ≡ f.lower → (spacing x k).distance.steps ≡ f.upper
       → (gate_view (gate_view listing) x).distance k ≡ f.pledged
 
 -- A gate above a list, and what is taken at a mark if every step takes what is offered there and then advances.

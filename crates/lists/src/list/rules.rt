@@ -10,8 +10,6 @@ use feeds::feed::Feed;
 use feeds::mark::Mark;
 use feeds::pledge::Pledge;
 
-const LETTER: u8 = b'L';
-
 // What a list pledges at every mark.
 const DISTANCE: u32 = 1;
 
@@ -68,14 +66,14 @@ impl<'a> List<'a> {
 }
 
 impl<'a> Pledge for List<'a> {
-    const LETTER: u8 = LETTER;
+    const LETTER: u8 = b'L';
 
     ghost initial = { 76 };
 
     ghost view = { listing };
 
     fn kind(&self) -> u8 {
-        LETTER
+        Self::LETTER
     }
 
     fn distance(&self, k: Mark) -> u32 {
