@@ -1,2 +1,5 @@
 pub mod ListChecks
+pub mod Seeking
+pub mod Slices
+pub mod Sounding
 pub mod Standing

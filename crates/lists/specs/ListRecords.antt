@@ -1,5 +1,6 @@
-use Rattle.std.specs.Prelude.{◌≡◌, ℕ, zero, suc, ◌+◌, ◌-◌, ◌*◌, ◌/◌, ◌%◌, ◌<◌, ◌≤◌, Bool, false, cond, ◌&&◌, List, length, is_ok, Ok, Err, Result, ◌==◌, ◌≢◌, nat_le, nat_lt, slice_index}
-use Rattle.lists.specs.declared.records.Arrival.{Arrival}
+use Rattle.std.specs.Prelude.{◌≡◌, ℕ, zero, suc, ◌+◌, ◌-◌, ◌*◌, ◌/◌, ◌%◌, ◌<◌, ◌≤◌, Bool, false, cond, ◌&&◌, List, length, is_ok, Ok, Err, Result, ◌==◌, ◌≢◌, nat_le, nat_lt, slice_index, take, drop}
+use Rattle.std.specs.Simd.{first_chunks}
+use Rattle.lists.specs.declared.records.record.Arrival.{Arrival}
 use Rattle.lists.specs.declared.records.fault.BadListRecord.{BadListRecord}
 use Rattle.lists.specs.declared.records.fault.CheckFault.{CheckFault}
 use Rattle.lists.specs.declared.records.fault.CheckFault.TheVariants.{List as InList}
@@ -12,6 +13,14 @@ use Rattle.lists.specs.declared.records.fault.ListRecordFault.TheVariants.{RowAb
 abbrev pub word_at : List ℕ → ℕ → ℕ
 word_at bs at = slice_index bs at * 16777216 + slice_index bs (at + 1) * 65536 + slice_index bs (at + 2) * 256 + slice_index bs (at + 3)
 
+-- the bytes of record i
+abbrev pub record_at : List ℕ → ℕ → List ℕ
+record_at bs i = take 16 (drop (16 * i) bs)
+
+-- the first n records, each with its bytes
+abbrev pub records_of : List ℕ → ℕ → List (List ℕ)
+records_of bs n = first_chunks 16 n bs
+
 -- the step of record i
 abbrev pub step_at : List ℕ → ℕ → ℕ
 step_at bs i = word_at bs (16 * i)
@@ -19,6 +28,10 @@ step_at bs i = word_at bs (16 * i)
 -- the row of record i
 abbrev pub row_at : List ℕ → ℕ → ℕ
 row_at bs i = slice_index bs (16 * i + 12)
+
+-- whether a record, by its bytes, is of a row
+abbrev pub is_of : ℕ → List ℕ → Bool
+is_of row r = slice_index r 12 == row
 
 -- the arrival that record i writes down
 abbrev pub arrival_at : List ℕ → ℕ → Arrival
@@ -73,9 +86,15 @@ sought bs n row i = seek_from bs row i (n - i)
 
 -- The same in the words of the rule: no record passed is of the row, and this one is.
 pub record FirstOfRow (bs : List ℕ) (n row i first : ℕ) : Type 0 where
+  pub behind : i ≤ first
   pub within : first ≤ n
   pub before : (j : ℕ) → i ≤ j → j < first → row_at bs j ≢ row
   pub here : first < n → row_at bs first ≡ row
+
+-- What a walk over the first n records tells: how many there are if each is without fault, and otherwise the first that is not.
+abbrev pub Walked : List ℕ → ℕ → Result ℕ BadListRecord → Type 0
+Walked bs n (Ok m) = (m ≡ n) × ((j : ℕ) → j < n → checked_at bs j ≡ Ok tt)
+Walked bs n (Err bad) = (bad.number < n) × (checked_at bs bad.number ≡ Err bad.fault) × ((j : ℕ) → j < bad.number → checked_at bs j ≡ Ok tt)
 
 -- a record's fault with the record's number
 abbrev pub numbered : ℕ → Result Unit ListRecordFault → Result Unit BadListRecord

@@ -3,7 +3,7 @@ use Rattle.std.proofs.Common.{inl, inr, ⊎_elim, subst, arith}
 use Rattle.std.proofs.lemmas.Bool.{both_ways, cases_Bool, cases_lt, cond-false, cond-true, eqb-false, eqb-true}
 use Rattle.std.proofs.lemmas.Bool.Decides.{eqb_tells, leb_tells}
 use Rattle.lists.specs.ListRecords.{FirstFaulty, FirstOfRow, arrival_at, checked, checked_at, is_padded, row_at, seek_from, sound_count, sound_from, sought, step_before}
-use Rattle.lists.specs.declared.records.Arrival.{Arrival}
+use Rattle.lists.specs.declared.records.record.Arrival.{Arrival}
 use Rattle.lists.specs.declared.records.fault.ListRecordFault.{ListRecordFault}
 
 -- What the walks over the records of a list do: one step on, a stop, the end, and what they passed over.
@@ -117,6 +117,7 @@ sound-first bs = record {
 -- a record of another row goes before
 widen : (bs : List ℕ) (n row i first : ℕ) → (row_at bs i ≢ row) → FirstOfRow bs n row (i + 1) first → FirstOfRow bs n row i first
 widen bs n row i first other later = record {
+  behind = omega (arith, later.behind);
   within = later.within;
   before = λ j a b. elim (eqb_tells i j) [ inl s ↦ subst (λ k. row_at bs k ≢ row) s.1 other | inr s ↦ later.before j (omega (arith, s.1)) b ];
   here = later.here;
@@ -124,12 +125,12 @@ widen bs n row i first other later = record {
 
 first_of : (bs : List ℕ) (n row more i : ℕ) → i + more ≡ n → FirstOfRow bs n row i (seek_from bs row i more)
 unfolding seek_from
-first_of bs n row zero i m = record { within = omega arith; before = λ j a b. absurd (omega arith); here = λ h. absurd (omega arith) }
+first_of bs n row zero i m = record { behind = omega arith; within = omega arith; before = λ j a b. absurd (omega arith); here = λ h. absurd (omega arith) }
 first_of bs n row (suc more) i m =
     ⊎_elim
     (λ e.
     rw (cond-true (row_at bs i == row) i (seek_from bs row (i + 1) more) e)
-    (record { within = omega arith; before = λ j a b. absurd (omega arith); here = λ h. eqb-true (row_at bs i) row e }))
+    (record { behind = omega arith; within = omega arith; before = λ j a b. absurd (omega arith); here = λ h. eqb-true (row_at bs i) row e }))
     (λ e.
     rw (cond-false (row_at bs i == row) i (seek_from bs row (i + 1) more) e)
     (widen bs n row i (seek_from bs row (i + 1) more) (eqb-false (row_at bs i) row e) (first_of bs n row more (i + 1) (omega arith))))

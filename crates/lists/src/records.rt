@@ -1,137 +1,117 @@
-ghost use Rattle.std.specs.Prelude.{◌≡◌, ◌+◌, ◌*◌, ◌≤◌, length};
-ghost use Rattle.lists.specs.ListRecords.{Checks, FirstFaulty, FirstOfRow, arrival_at, checked, checked_at, checked_list, is_padded, list_of, numbered, sought, sound_count, step_at, step_before, word_at};
+ghost use Rattle.std.specs.Prelude.{IfSome, ◌≡◌, ◌*◌, ◌/◌, ◌<◌, ◌≤◌, length};
+ghost use Rattle.std.specs.List.{position};
+ghost use Rattle.lists.specs.ListRecords.{Checks, FirstFaulty, FirstOfRow, Walked, arrival_at, checked_list, is_of, list_of, record_at, records_of, sought, sound_count, step_at};
 
 pub mod fault;
+mod record;
 
-use fault::{BadListRecord, CheckFault, ListFault, ListRecordFault};
+use fault::{BadListRecord, CheckFault, ListFault};
+use record::{Arrival, Record};
 
-// What a record of a list writes down: from which step on it may arrive, at which row, and what it costs.
+// The first so many records of a file, where they lie: 16 bytes each.
 #[derive(Clone, Copy)]
-pub(crate) struct Arrival {
-    pub(crate) step: u32,
-    pub(crate) memory: u32,
-    pub(crate) processor: u32,
-    pub(crate) row: u8,
+pub(crate) struct Records<'a> {
+    bytes: &'a [u8],
+    count: usize,
+    ghost within: { 16 * count ≤ length bytes.now },
 }
 
-// The big-endian number of four bytes.
-fn word_at(bytes: &[u8], at: usize) -> u32
-    requires { at + 4 ≤ length bytes.now }
-    ensures { result ≡ word_at bytes.now at }
-{
-    u32::from_be_bytes([bytes[at], bytes[at + 1], bytes[at + 2], bytes[at + 3]])
-}
-
-// The step of a record.
-pub(crate) fn step_at(bytes: &[u8], number: usize) -> u32
-    requires { 16 * number + 16 ≤ length bytes.now }
-    ensures { result ≡ step_at bytes.now number }
-{
-    word_at(bytes, 16 * number)
-}
-
-// The record of a number, whatever its figures.
-pub(crate) fn arrival_at(bytes: &[u8], number: usize) -> Arrival
-    requires { 16 * number + 16 ≤ length bytes.now }
-    ensures { result ≡ arrival_at bytes.now number }
-{
-    let at = 16 * number;
-    Arrival {
-        step: step_at(bytes, number),
-        memory: word_at(bytes, at + 4),
-        processor: word_at(bytes, at + 8),
-        row: bytes[at + 12],
-    }
-}
-
-// The step of the record before.
-fn step_before(bytes: &[u8], number: usize) -> u32
-    requires { 16 * number ≤ length bytes.now }
-    ensures { result ≡ step_before bytes.now number }
-{
-    if number == 0 {
-        return 0;
-    }
-    step_at(bytes, number - 1)
-}
-
-// Whether the three bytes behind the row are zeros.
-fn is_padded(bytes: &[u8], number: usize) -> bool
-    requires { 16 * number + 16 ≤ length bytes.now }
-    ensures { result ≡ is_padded bytes.now number }
-{
-    let at = 16 * number;
-    bytes[at + 13] == 0 && bytes[at + 14] == 0 && bytes[at + 15] == 0
-}
-
-impl Arrival {
-    // The first fault, in the order of checking, behind a record of the earlier step.
-    fn check(&self, earlier: u32, padded: bool) -> Result<(), ListRecordFault>
-        ensures { result ≡ checked self.now earlier padded }
+impl<'a> Records<'a> {
+    // So many records of a file that has as many.
+    pub(crate) fn first(bytes: &'a [u8], count: usize) -> Records<'a>
+        requires { 16 * count ≤ length bytes.now }
+        ensures bytes { result.bytes.now ≡ bytes.now }
+        ensures count { result.count ≡ count }
     {
-        if self.row > 31 {
-            return Err(ListRecordFault::RowAbove);
+        Records { bytes, count }
+    }
+
+    // All of them. A last record that is cut short is passed over.
+    fn all(bytes: &'a [u8]) -> Records<'a>
+        ensures bytes { result.bytes.now ≡ bytes.now }
+        ensures count { result.count ≡ length bytes.now / 16 }
+    {
+        Records::first(bytes, bytes.len() / 16)
+    }
+
+    // Each of them by its bytes.
+    fn items(&self) -> &'a [[u8; 16]]
+        ensures value { result.now ≡ records_of self.now.bytes.now self.now.count }
+        ensures length { length result.now ≡ self.now.count }
+    {
+        let (records, _) = self.bytes.as_chunks::<16>();
+        &records[..self.count]
+    }
+
+    // The record of a number.
+    fn at(&self, number: usize) -> Record<'a>
+        requires { number < self.now.count }
+        ensures { result.bytes.now ≡ record_at self.now.bytes.now number }
+    {
+        Record {
+            bytes: &self.items()[number],
         }
-        if self.step < earlier {
-            return Err(ListRecordFault::StepBack);
+    }
+
+    // The step of the record of a number.
+    pub(crate) fn step(&self, number: usize) -> u32
+        requires { number < self.now.count }
+        ensures { result ≡ step_at self.now.bytes.now number }
+    {
+        self.at(number).step()
+    }
+
+    // The arrival of the record of a number, whatever its figures.
+    pub(crate) fn arrival(&self, number: usize) -> Arrival
+        requires { number < self.now.count }
+        ensures { result ≡ arrival_at self.now.bytes.now number }
+    {
+        self.at(number).arrival()
+    }
+
+    // The number of the first record of a row from a number on, or the count if there is none.
+    pub(crate) fn seek(&self, row: usize, from: usize) -> usize
+        requires { from ≤ self.now.count }
+        ensures value { result ≡ sought self.now.bytes.now self.now.count row from }
+        ensures first { FirstOfRow self.now.bytes.now self.now.count row from result }
+    {
+        match first_of(&self.items()[from..], row) {
+            Some(passed) => from + passed,
+            None => self.count,
         }
-        if self.processor < 1 || self.processor > 1_000_000 {
-            return Err(ListRecordFault::ProcessorRange);
+    }
+
+    // How many records there are, all of them without fault, or the first that has one.
+    fn check(&self) -> Result<usize, BadListRecord>
+        ensures { Walked self.now.bytes.now self.now.count result }
+    {
+        let mut earlier = 0;
+        for (number, bytes) in self.items().iter().enumerate() {
+            let record = Record { bytes };
+            record.check_numbered(number, earlier)?;
+            earlier = record.step();
         }
-        if self.memory > 1_000_000 {
-            return Err(ListRecordFault::MemoryAbove);
-        }
-        if !padded {
-            return Err(ListRecordFault::Reserved);
-        }
-        Ok(())
+        Ok(self.count)
     }
 }
 
-// The first fault of the record of a number.
-fn check_record(bytes: &[u8], number: usize) -> Result<(), ListRecordFault>
-    requires { 16 * number + 16 ≤ length bytes.now }
-    ensures { result ≡ checked_at bytes.now number }
+// The place of the first record of a row.
+fn first_of(records: &[[u8; 16]], row: usize) -> Option<usize>
+    ensures value { result ≡ position (is_of row) records.now }
+    ensures within { IfSome result (λ i. i < length records.now) }
 {
-    let arrival = arrival_at(bytes, number);
-    arrival.check(step_before(bytes, number), is_padded(bytes, number))
+    records.iter().position(|bytes| Record { bytes }.is_of(row))
 }
 
-// The same, with the record's number told beside its fault.
-fn check_numbered(bytes: &[u8], number: usize) -> Result<(), BadListRecord>
-    requires { 16 * number + 16 ≤ length bytes.now }
-    ensures { result ≡ numbered number (checked_at bytes.now number) }
-{
-    match check_record(bytes, number) {
-        Ok(()) => Ok(()),
-        Err(fault) => Err(BadListRecord { number, fault }),
-    }
-}
-
-// How many records stand before the first faulty one. A last record that is cut short is passed over.
+// How many records stand before the first faulty one.
 pub(crate) fn sound_count(bytes: &[u8]) -> usize
     ensures value { result ≡ sound_count bytes.now }
     ensures first { FirstFaulty bytes.now result }
 {
-    let records = bytes.len() / 16;
-    let mut number = 0;
-    while number < records && check_record(bytes, number).is_ok() {
-        number += 1;
+    match Records::all(bytes).check() {
+        Ok(count) => count,
+        Err(bad) => bad.number,
     }
-    number
-}
-
-// The first record of a row from a number on, among the first `count`, or `count` if there is none.
-pub(crate) fn seek(bytes: &[u8], count: usize, row: usize, from: usize) -> usize
-    requires { (16 * count ≤ length bytes.now) × (from ≤ count) }
-    ensures value { result ≡ sought bytes.now count row from }
-    ensures first { FirstOfRow bytes.now count row from result }
-{
-    let mut number = from;
-    while number < count && bytes[16 * number + 12] as usize != row {
-        number += 1;
-    }
-    number
 }
 
 // How many records a list has, all of them without fault, or the list's first fault.
@@ -141,11 +121,7 @@ fn check_records(bytes: &[u8]) -> Result<usize, ListFault>
     if bytes.len() % 16 != 0 {
         return Err(ListFault::Length);
     }
-    let sound = sound_count(bytes);
-    if sound < bytes.len() / 16 {
-        check_numbered(bytes, sound)?;
-    }
-    Ok(sound)
+    Ok(Records::all(bytes).check()?)
 }
 
 // Checks a list: tells how many records it has if it is without fault, or its first fault.

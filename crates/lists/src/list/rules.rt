@@ -5,7 +5,7 @@ ghost use Rattle.feeds.specs.Meanings.{Advanced, Taken};
 
 use super::List;
 use super::places::{Place, Places};
-use crate::records::{arrival_at, seek, sound_count, step_at};
+use crate::records::{Records, sound_count};
 use feeds::feed::Feed;
 use feeds::mark::Mark;
 use feeds::pledge::Pledge;
@@ -27,7 +27,7 @@ impl<'a> List<'a> {
             bytes,
             count,
             clock: 0,
-            places: Places::new(bytes, count),
+            places: Places::new(&Records::first(bytes, count)),
         }
     }
 
@@ -39,6 +39,14 @@ impl<'a> List<'a> {
         self.count
     }
 
+    // The records that it takes in.
+    fn records(&self) -> Records<'a>
+        ensures bytes { result.bytes.now ≡ self.now.bytes.now }
+        ensures count { result.count ≡ self.now.count }
+    {
+        Records::first(self.bytes, self.count)
+    }
+
     // The number of the record that a mark is offered: the one it stands at, so nothing is looked for.
     fn due(&self, k: Mark) -> Option<usize>
         ensures value { result ≡ due_of self.now k.value }
@@ -48,7 +56,7 @@ impl<'a> List<'a> {
         if place.rest > 0 {
             return None;
         }
-        if place.cursor < self.count && step_at(self.bytes, place.cursor) <= self.clock {
+        if place.cursor < self.count && self.records().step(place.cursor) <= self.clock {
             Some(place.cursor)
         } else {
             None
@@ -60,7 +68,7 @@ impl<'a> List<'a> {
         requires { number < self.now.count }
         ensures { result ≡ figures_of self.now number }
     {
-        let arrival = arrival_at(self.bytes, number);
+        let arrival = self.records().arrival(number);
         (arrival.memory, arrival.processor)
     }
 }
@@ -109,7 +117,7 @@ impl<'a> Feed for List<'a> {
         match self.due(k) {
             Some(number) => {
                 let offer = self.figures(number);
-                let cursor = seek(self.bytes, self.count, k.index(), number + 1);
+                let cursor = self.records().seek(k.index(), number + 1);
                 self.places.put(
                     k,
                     Place {

@@ -1,19 +1,18 @@
-ghost use Rattle.std.specs.Prelude.{◌≡◌, ◌*◌, ◌≤◌, length};
+ghost use Rattle.std.specs.Prelude.{◌≡◌};
 ghost use Rattle.lists.specs.Places.{Lowered, Moved, Placed, place_of};
 
 use super::{Place, Places};
-use crate::records::seek;
+use crate::records::Records;
 use feeds::mark::Mark;
 
 impl Places {
     // Every mark at its first record, and none at rest.
-    pub(crate) fn new(bytes: &[u8], count: usize) -> Places
-        requires { 16 * count ≤ length bytes.now }
-        ensures { Placed bytes.now count result }
+    pub(crate) fn new(records: &Records) -> Places
+        ensures { Placed records.now.bytes.now records.now.count result }
     {
         let mut entries = [Place { cursor: 0, rest: 0 }; 32];
         for i in 0..32 {
-            let cursor = seek(bytes, count, i, 0);
+            let cursor = records.seek(i, 0);
             entries[i] = Place { cursor, rest: 0 };
         }
         Places { entries }

@@ -13,7 +13,7 @@ loop-i-init c = (refl, (λ k h. absurd (omega arith)), (λ k h. each (λ e. e �
 pub loop-i-preserved : goal.loop-i-preserved
 loop-i-preserved c =
     let lt : c.loop-i.i < length c.loop-i.entries = omega (arith, c.loop-i.invariant.0)
-    in let cursor : c.seek-cursor.result ≡ sought c.args.bytes.now c.args.count c.loop-i.i 0 =
+    in let cursor : c.seek-cursor.result ≡ sought c.args.records.now.bytes.now c.args.records.now.count c.loop-i.i 0 =
     c.seek-cursor.ensures.value
     in (
       rw length-set c.loop-i.invariant.0,
