@@ -52,15 +52,9 @@ impl<'a> List<'a> {
         ensures value { result ≡ due_of self.now k.value }
         ensures within { IfSome result (λ i. i < self.now.count) }
     {
-        let place = self.places.at(k);
-        if place.rest > 0 {
-            return None;
-        }
-        if place.cursor < self.count && self.records().step(place.cursor) <= self.clock {
-            Some(place.cursor)
-        } else {
-            None
-        }
+        let Place { cursor, rest } = self.places.at(k);
+        let due = rest == 0 && cursor < self.count && self.records().step(cursor) <= self.clock;
+        due.then_some(cursor)
     }
 
     // The memory and the processor steps of a record.
@@ -102,10 +96,8 @@ impl<'a> Feed for List<'a> {
         ensures value { result ≡ (listing self.now).offer k.value }
         ensures own { OfMark self.now k.value result }
     {
-        match self.due(k) {
-            Some(number) => Some(self.figures(number)),
-            None => None,
-        }
+        let number = self.due(k)?;
+        Some(self.figures(number))
     }
 
     // The mark goes on to its next record, past the one that was offered.
@@ -114,21 +106,12 @@ impl<'a> Feed for List<'a> {
         ensures idle { (listing self.old).offer k.value ≡ None → self.new ≡ self.old }
         ensures drawn { Drawn self.old k.value self.new }
     {
-        match self.due(k) {
-            Some(number) => {
-                let offer = self.figures(number);
-                let cursor = self.records().seek(k.index(), number + 1);
-                self.places.put(
-                    k,
-                    Place {
-                        cursor,
-                        rest: DISTANCE,
-                    },
-                );
-                Some(offer)
-            }
-            None => None,
-        }
+        let number = self.due(k)?;
+        let offer = self.figures(number);
+        let cursor = self.records().seek(k.index(), number + 1);
+        let rest = DISTANCE;
+        self.places.put(k, Place { cursor, rest });
+        Some(offer)
     }
 
     // The clock stops at its last number.

@@ -3,8 +3,8 @@ use Rattle.lists.specs.Lists.{OfMark, offer_of}
 use Rattle.lists.proofs.Standing.{offer_own}
 use Rattle.lists.proofs.list.rules.ListFeed.look.Goals as goal
 
-pub returns-in-Some : goal.returns-in-Some
-returns-in-Some c =
+pub returns : goal.returns
+returns c =
     let x = c.args.self.now
     in let k = c.args.k.value
     in let value : Some c.figures.result ≡ offer_of x k = search rules
