@@ -1,6 +1,7 @@
 use Rattle.std.proofs.Common.{◌≡◌, ℕ, zero, suc, ◌+◌, ◌*◌, ◌<◌, ◌≤◌, List, [], ◌∷◌, length, get_or, take, drop, refl, ap, ◌∙◌, arith}
 use Rattle.std.proofs.lemmas.List.{get_or-drop, get_or-take, drop-drop}
-use Rattle.lists.specs.ListRecords.{arrival_at, is_padded, record_at, records_of, row_at, step_at, word_at}
+use Rattle.lists.specs.ListRecords.{arrival_at, is_padded, record_at, records_of, row_at, step_at}
+use Rattle.rows.specs.Books.{word_at}
 use Rattle.lists.specs.declared.records.record.Arrival.{Arrival}
 
 -- What stands in the sixteens that a list is read by.

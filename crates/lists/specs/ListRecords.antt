@@ -1,17 +1,14 @@
 use Rattle.std.specs.Prelude.{◌≡◌, ℕ, zero, suc, ◌+◌, ◌-◌, ◌*◌, ◌/◌, ◌%◌, ◌<◌, ◌≤◌, Bool, false, cond, ◌&&◌, List, length, is_ok, Ok, Err, Result, ◌==◌, ◌≢◌, nat_le, nat_lt, slice_index, take, drop}
 use Rattle.std.specs.Simd.{first_chunks}
+use Rattle.rows.specs.Books.{word_at}
+use Rattle.rows.specs.declared.fault.BadRecord.{BadRecord}
 use Rattle.lists.specs.declared.records.record.Arrival.{Arrival}
-use Rattle.lists.specs.declared.records.fault.BadListRecord.{BadListRecord}
 use Rattle.lists.specs.declared.records.fault.CheckFault.{CheckFault}
 use Rattle.lists.specs.declared.records.fault.CheckFault.TheVariants.{List as InList}
 use Rattle.lists.specs.declared.records.fault.ListFault.{ListFault}
 use Rattle.lists.specs.declared.records.fault.ListFault.TheVariants.{Length, Record}
 use Rattle.lists.specs.declared.records.fault.ListRecordFault.{ListRecordFault}
 use Rattle.lists.specs.declared.records.fault.ListRecordFault.TheVariants.{RowAbove, StepBack, ProcessorRange, MemoryAbove, Reserved}
-
--- the big-endian number of four bytes
-abbrev pub word_at : List ℕ → ℕ → ℕ
-word_at bs at = slice_index bs at * 16777216 + slice_index bs (at + 1) * 65536 + slice_index bs (at + 2) * 256 + slice_index bs (at + 3)
 
 -- the bytes of record i
 abbrev pub record_at : List ℕ → ℕ → List ℕ
@@ -92,17 +89,17 @@ pub record FirstOfRow (bs : List ℕ) (n row i first : ℕ) : Type 0 where
   pub here : first < n → row_at bs first ≡ row
 
 -- What a walk over the first n records tells: how many there are if each is without fault, and otherwise the first that is not.
-abbrev pub Walked : List ℕ → ℕ → Result ℕ BadListRecord → Type 0
+abbrev pub Walked : List ℕ → ℕ → Result ℕ (BadRecord ListRecordFault) → Type 0
 Walked bs n (Ok m) = (m ≡ n) × ((j : ℕ) → j < n → checked_at bs j ≡ Ok tt)
 Walked bs n (Err bad) = (bad.number < n) × (checked_at bs bad.number ≡ Err bad.fault) × ((j : ℕ) → j < bad.number → checked_at bs j ≡ Ok tt)
 
 -- a record's fault with the record's number
-abbrev pub numbered : ℕ → Result Unit ListRecordFault → Result Unit BadListRecord
+abbrev pub numbered : ℕ → Result Unit ListRecordFault → Result Unit (BadRecord ListRecordFault)
 numbered i (Ok _) = Ok tt
 numbered i (Err fault) = Err record { number = i; fault = fault }
 
 -- a list of n sound records goes on with a record that is checked
-abbrev pub ends_at : ℕ → Result Unit BadListRecord → Result ℕ ListFault
+abbrev pub ends_at : ℕ → Result Unit (BadRecord ListRecordFault) → Result ℕ ListFault
 ends_at n (Ok _) = Ok n
 ends_at n (Err bad) = Err (Record bad)
 
@@ -124,7 +121,7 @@ checked_list bs = in_list (list_of bs)
 -- The same in the words of the rule: a list is without fault if its length is a multiple of 16 and each of its records
 -- is without fault; otherwise the length decides, or the first faulty record, with its number and its fault.
 
-pub record FirstFault (bs : List ℕ) (bad : BadListRecord) : Type 0 where
+pub record FirstFault (bs : List ℕ) (bad : BadRecord ListRecordFault) : Type 0 where
   pub whole : length bs % 16 ≡ 0
   pub within : bad.number < length bs / 16
   pub here : checked_at bs bad.number ≡ Err bad.fault

@@ -5,8 +5,9 @@ ghost use Rattle.lists.specs.ListRecords.{Checks, FirstFaulty, FirstOfRow, Walke
 pub mod fault;
 mod record;
 
-use fault::{BadListRecord, CheckFault, ListFault};
+use fault::{CheckFault, ListFault, ListRecordFault};
 use record::{Arrival, Record};
+use rows::fault::BadRecord;
 
 // The first so many records of a file, where they lie: 16 bytes each.
 #[derive(Clone, Copy)]
@@ -82,7 +83,7 @@ impl<'a> Records<'a> {
     }
 
     // How many records there are, all of them without fault, or the first that has one.
-    fn check(&self) -> Result<usize, BadListRecord>
+    fn check(&self) -> Result<usize, BadRecord<ListRecordFault>>
         ensures { Walked self.now.bytes.now self.now.count result }
     {
         let mut earlier = 0;

@@ -1,7 +1,9 @@
-ghost use Rattle.lists.specs.ListFaults.{check_number, list_number, list_record_number};
+ghost use Rattle.lists.specs.ListFaults.{check_number, check_refusal, list_number, list_record_number};
 ghost use Rattle.lists.specs.declared.records.fault.CheckFault.TheVariants.{List as InList};
 ghost use Rattle.lists.specs.declared.records.fault.ListFault.TheVariants.{Record as InRecord};
 ghost use Rattle.std.specs.Prelude.{◌≡◌};
+
+use rows::fault::{BadRecord, Refusal};
 
 // What is wrong with one record of a list, in the order of checking.
 #[derive(Clone, Copy, PartialEq, Eq, Debug)]
@@ -18,19 +20,12 @@ pub enum ListRecordFault {
     Reserved,
 }
 
-// A record's fault with the record's number, counted from 0.
-#[derive(Clone, Copy, PartialEq, Eq, Debug)]
-pub struct BadListRecord {
-    pub number: usize,
-    pub fault: ListRecordFault,
-}
-
 // What is wrong with a list.
 #[derive(Clone, Copy, PartialEq, Eq, Debug)]
 pub enum ListFault {
     // The length is not a multiple of a record's.
     Length,
-    Record(BadListRecord),
+    Record(BadRecord<ListRecordFault>),
 }
 
 // Why a check fails: the case names the kind of file.
@@ -74,10 +69,10 @@ impl CheckFault {
     }
 }
 
-impl From<BadListRecord> for ListFault {
+impl From<BadRecord<ListRecordFault>> for ListFault {
     ghost from_gives = { λ bad fault. fault ≡ InRecord bad };
 
-    fn from(value: BadListRecord) -> ListFault {
+    fn from(value: BadRecord<ListRecordFault>) -> ListFault {
         ListFault::Record(value)
     }
 }
@@ -87,5 +82,21 @@ impl From<ListFault> for CheckFault {
 
     fn from(value: ListFault) -> CheckFault {
         CheckFault::List(value)
+    }
+}
+
+impl From<CheckFault> for Refusal {
+    ghost from_gives = { λ check refusal. refusal ≡ check_refusal check };
+
+    fn from(value: CheckFault) -> Refusal {
+        let CheckFault::List(fault) = value;
+        let record = match fault {
+            ListFault::Length => None,
+            ListFault::Record(bad) => Some(bad.number),
+        };
+        Refusal {
+            number: fault.number(),
+            record,
+        }
     }
 }

@@ -1,7 +1,9 @@
-ghost use Rattle.std.specs.Prelude.{◌≡◌, ◌+◌, ◌≤◌};
-ghost use Rattle.lists.specs.ListRecords.{arrival_at, checked, is_of, is_padded, numbered, step_at, word_at};
+ghost use Rattle.std.specs.Prelude.{◌≡◌};
+ghost use Rattle.lists.specs.ListRecords.{arrival_at, checked, is_of, is_padded, numbered, step_at};
 
-use super::fault::{BadListRecord, ListRecordFault};
+use super::fault::ListRecordFault;
+use rows::fault::BadRecord;
+use rows::word::word_at;
 
 // One record of a list, where it lies in the file.
 #[derive(Clone, Copy)]
@@ -19,30 +21,23 @@ pub(crate) struct Arrival {
 }
 
 impl<'a> Record<'a> {
-    // The big-endian number of four bytes.
-    fn word_at(&self, at: usize) -> u32
-        requires { at + 4 ≤ 16 }
-        ensures { result ≡ word_at self.now.bytes.now at }
-    {
-        let bytes = self.bytes;
-        u32::from_be_bytes([bytes[at], bytes[at + 1], bytes[at + 2], bytes[at + 3]])
-    }
-
     pub(crate) fn step(&self) -> u32
         ensures { result ≡ step_at self.now.bytes.now 0 }
     {
-        self.word_at(0)
+        let bytes = self.bytes;
+        word_at(bytes, 0)
     }
 
     // What it writes down, whatever its figures.
     pub(crate) fn arrival(&self) -> Arrival
         ensures { result ≡ arrival_at self.now.bytes.now 0 }
     {
+        let bytes = self.bytes;
         Arrival {
-            step: self.step(),
-            memory: self.word_at(4),
-            processor: self.word_at(8),
-            row: self.bytes[12],
+            step: word_at(bytes, 0),
+            memory: word_at(bytes, 4),
+            processor: word_at(bytes, 8),
+            row: bytes[12],
         }
     }
 
@@ -83,10 +78,14 @@ impl<'a> Record<'a> {
     }
 
     // The same, with the record's number told beside its fault.
-    pub(crate) fn check_numbered(&self, number: usize, earlier: u32) -> Result<(), BadListRecord>
+    pub(crate) fn check_numbered(
+        &self,
+        number: usize,
+        earlier: u32,
+    ) -> Result<(), BadRecord<ListRecordFault>>
         ensures { result ≡ numbered number (checked (arrival_at self.now.bytes.now 0) earlier (is_padded self.now.bytes.now 0)) }
     {
         self.check(earlier)
-            .map_err(|fault| BadListRecord { number, fault })
+            .map_err(|fault| BadRecord { number, fault })
     }
 }
