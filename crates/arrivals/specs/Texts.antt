@@ -1,14 +1,13 @@
-use Rattle.std.specs.Prelude.{◌≡◌, ℕ, ◌/◌, ◌%◌, ◌<◌, List, [], ◌∷◌, ◌++◌, length, Some, None, Ok, Err, codes, decimal, Option, Result}
+use Rattle.std.specs.Prelude.{◌≡◌, ℕ, ◌/◌, ◌%◌, ◌<◌, List, [], ◌∷◌, ◌++◌, length, Ok, Err, codes, decimal, Result}
 use Rattle.feeds.specs.Meanings.{View}
 use Rattle.layers.specs.Gates.{Spaced, gate_view, spacing}
 use Rattle.layers.specs.declared.gate.Gate.{Gate}
-use Rattle.lists.specs.ListFaults.{check_number}
+use Rattle.lists.specs.ListFaults.{check_refusal}
+use Rattle.rows.specs.Refusals.{refusal_text}
 use Rattle.lists.specs.ListRecords.{checked_list, sound_count}
 use Rattle.lists.specs.Lists.{ListMade, listing}
 use Rattle.lists.specs.declared.list.List.{List as Listed}
 use Rattle.lists.specs.declared.records.fault.CheckFault.{CheckFault}
-use Rattle.lists.specs.declared.records.fault.CheckFault.TheVariants.{List as InList}
-use Rattle.lists.specs.declared.records.fault.ListFault.TheVariants.{Length, Record}
 use Rattle.arrivals.specs.Takings.{Journal}
 use Rattle.arrivals.specs.declared.takings.Taking.{Taking}
 
@@ -16,23 +15,13 @@ use Rattle.arrivals.specs.declared.takings.Taking.{Taking}
 abbrev pub line_end : List ℕ
 line_end = 10 ∷ []
 
--- the number of the record that a fault lies in
-abbrev pub record_of : CheckFault → Option ℕ
-record_of (InList Length) = None
-record_of (InList (Record bad)) = Some bad.number
-
--- the line of a refusal
-abbrev pub refusal_text : ℕ → Option ℕ → List ℕ
-refusal_text number None = codes "turned down " ++ (decimal number ++ line_end)
-refusal_text number (Some i) = codes "turned down " ++ (decimal number ++ (codes " record " ++ (decimal i ++ line_end)))
-
 abbrev pub faultless_text : ℕ → List ℕ
 faultless_text n = codes "faultless " ++ (decimal n ++ line_end)
 
 -- the word of the list check
 abbrev pub word_text : Result ℕ CheckFault → List ℕ
 word_text (Ok n) = faultless_text n
-word_text (Err fault) = refusal_text (check_number fault) (record_of fault)
+word_text (Err fault) = refusal_text (check_refusal fault) ++ line_end
 
 -- the line of a taking: step, mark in two digits, memory and processor steps
 abbrev pub line_text : Taking → List ℕ

@@ -6,8 +6,6 @@ pub(crate) fn parse_distance(text: &str) -> Option<u32>
     ensures read { DistanceRead text.now result }
     ensures range { IfSome result InRange }
 {
-    match text.parse::<u32>() {
-        Ok(distance) if distance >= 1 && distance <= 1_000_000 => Some(distance),
-        _ => None,
-    }
+    let distance = text.parse::<u32>().ok()?;
+    (1..=1_000_000).contains(&distance).then_some(distance)
 }

@@ -19,13 +19,10 @@ use report::list_arrivals;
 fn asked_distance(rt: &HostRuntime) -> anyhow::Result<u32>
     ensures { IfOk result InRange }
 {
-    match env::args(rt)?.nth(1) {
-        Some(text) => match parse_distance(&text) {
-            Some(distance) => Ok(distance),
-            None => Err(anyhow!("the distance is a number from 1 to 1000000")),
-        },
-        None => Ok(1),
-    }
+    let Some(text) = env::args(rt)?.nth(1) else {
+        return Ok(1);
+    };
+    parse_distance(&text).ok_or_else(|| anyhow!("the distance is a number from 1 to 1000000"))
 }
 
 // Reads a list on standard input, and prints what comes of it through a gate of the distance asked for.

@@ -1,59 +1,24 @@
-ghost use Rattle.arrivals.specs.Texts.{ShowsArrivals, counts_text, faultless_text, line_text, lines_text, record_of, refusal_text, word_text};
-ghost use Rattle.lists.specs.ListFaults.{check_number};
+ghost use Rattle.arrivals.specs.Texts.{ShowsArrivals, counts_text, line_text, lines_text, word_text};
 ghost use Rattle.arrivals.specs.Ranges.{InRange};
-ghost use Rattle.std.specs.Prelude.{◌≡◌, ◌++◌, IfOk, Some, None, string_bytes, OnOk};
+ghost use Rattle.std.specs.Prelude.{◌≡◌, ◌++◌, IfOk, string_bytes, OnOk};
 
 use crate::takings::{Taking, gate_over, take_steps};
 use lists::list::List;
 use lists::records::check_list;
-use lists::records::fault::{CheckFault, ListFault};
+use lists::records::fault::CheckFault;
+use rows::fault::Refusal;
 use std::alloc::{AllocError, Global};
-
-// The number of the record that a fault lies in.
-fn faulty_record(fault: CheckFault) -> Option<usize>
-    ensures { result ≡ record_of fault }
-{
-    match fault {
-        CheckFault::List(ListFault::Length) => None,
-        CheckFault::List(ListFault::Record(bad)) => Some(bad.number),
-    }
-}
-
-fn put_faultless(text: &mut String, count: usize) -> Result<(), AllocError>
-    ensures { OnOk result (string_bytes text.new ≡ string_bytes text.old ++ faultless_text count) }
-{
-    writeln!(text, "faultless {count}")
-}
-
-fn put_file_fault(text: &mut String, number: u8) -> Result<(), AllocError>
-    ensures { OnOk result (string_bytes text.new ≡ string_bytes text.old ++ refusal_text number None) }
-{
-    writeln!(text, "turned down {number}")
-}
-
-fn put_record_fault(text: &mut String, number: u8, at: usize) -> Result<(), AllocError>
-    ensures { OnOk result (string_bytes text.new ≡ string_bytes text.old ++ refusal_text number (Some at)) }
-{
-    writeln!(text, "turned down {number} record {at}")
-}
-
-// The line of a refusal, with the record's number if one is at fault.
-fn put_refusal(text: &mut String, fault: CheckFault) -> Result<(), AllocError>
-    ensures { OnOk result (string_bytes text.new ≡ string_bytes text.old ++ refusal_text (check_number fault) (record_of fault)) }
-{
-    match faulty_record(fault) {
-        Some(at) => put_record_fault(text, fault.number(), at),
-        None => put_file_fault(text, fault.number()),
-    }
-}
 
 // The line of the list check.
 fn put_word(text: &mut String, word: Result<usize, CheckFault>) -> Result<(), AllocError>
     ensures { OnOk result (string_bytes text.new ≡ string_bytes text.old ++ word_text word) }
 {
     match word {
-        Ok(count) => put_faultless(text, count),
-        Err(fault) => put_refusal(text, fault),
+        Ok(count) => writeln!(text, "faultless {count}"),
+        Err(fault) => {
+            let refusal = Refusal::from(fault);
+            writeln!(text, "{refusal}")
+        }
     }
 }
 
