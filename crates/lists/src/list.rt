@@ -2,7 +2,8 @@ ghost use Rattle.std.specs.Prelude.{◌≡◌, ℕ, ◌*◌, ◌<◌, ◌≤◌,
 ghost use Rattle.lists.specs.ListRecords.{sound_count, sought};
 ghost use Rattle.lists.specs.Places.{place_of};
 
-use places::Places;
+use feeds::per_mark::PerMark;
+use places::Place;
 
 mod places;
 mod rules;
@@ -14,7 +15,7 @@ pub struct List<'a> {
     bytes: &'a [u8],
     count: usize,
     clock: u32,
-    places: Places,
+    places: PerMark<Place>,
     ghost counted: { count ≡ sound_count bytes.now },
     ghost within: { 16 * count ≤ length bytes.now },
     ghost standing: { (k : ℕ) → k < 32 → sought bytes.now count k (place_of places k).cursor ≡ (place_of places k).cursor },

@@ -4,7 +4,7 @@ ghost use Rattle.lists.specs.Lists.{Drawn, Later, ListMade, OfMark, due_of, figu
 ghost use Rattle.feeds.specs.Meanings.{Advanced, Taken};
 
 use super::List;
-use super::places::{Place, Places};
+use super::places::{Place, first_places, rest_on};
 use crate::records::{Records, sound_count};
 use feeds::feed::Feed;
 use feeds::mark::Mark;
@@ -27,7 +27,7 @@ impl<'a> List<'a> {
             bytes,
             count,
             clock: 0,
-            places: Places::new(&Records::first(bytes, count)),
+            places: first_places(&Records::first(bytes, count)),
         }
     }
 
@@ -52,7 +52,7 @@ impl<'a> List<'a> {
         ensures value { result ≡ due_of self.now k.value }
         ensures within { IfSome result (λ i. i < self.now.count) }
     {
-        let Place { cursor, rest } = self.places.at(k);
+        let Place { cursor, rest } = self.places.get(k);
         let due = rest == 0 && cursor < self.count && self.records().step(cursor) <= self.clock;
         due.then_some(cursor)
     }
@@ -110,7 +110,7 @@ impl<'a> Feed for List<'a> {
         let offer = self.figures(number);
         let cursor = self.records().seek(k.index(), number + 1);
         let rest = DISTANCE;
-        self.places.put(k, Place { cursor, rest });
+        self.places.set(k, Place { cursor, rest });
         Some(offer)
     }
 
@@ -119,7 +119,7 @@ impl<'a> Feed for List<'a> {
         ensures advanced { Advanced (listing self.old) (listing self.new) }
         ensures later { Later self.old self.new }
     {
-        self.places.lower();
+        rest_on(&mut self.places);
         self.clock = self.clock.saturating_add(1);
     }
 }
