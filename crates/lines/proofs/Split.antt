@@ -9,7 +9,7 @@ use Rattle.std.specs.List.{prefix_len}
 use Rattle.std.specs.Str.{all_ascii_digits}
 use Rattle.lines.specs.Fields.{read_on}
 use Rattle.lines.specs.Prints.{column}
-use Rattle.lines.specs.Words.{after_word, first_word, from_word, is_blank, is_of}
+use Rattle.lines.specs.Words.{after_word, first_word, from_word, is_blank, is_solid}
 
 -- no byte is a blank
 abbrev pub solid : List ℕ → Bool
@@ -21,14 +21,14 @@ abbrev pub parted : List ℕ → Bool
 parted [] = true
 parted (b ∷ bs) = is_blank b
 
-lead_word : (ws rest : List ℕ) → solid ws ≡ true → parted rest ≡ true → prefix_len (is_of false) (ws ++ rest) ≡ length ws
+lead_word : (ws rest : List ℕ) → solid ws ≡ true → parted rest ≡ true → prefix_len is_solid (ws ++ rest) ≡ length ws
 lead_word [] [] s p = refl
 lead_word [] (b ∷ bs) s p = rw p refl
 lead_word (b ∷ ws) rest s p =
     let parts = and_parts (not (is_blank b)) (solid ws) s
     in cond-true _ _ 0 parts.0 ∙ ap (λ n. 1 + n) (lead_word ws rest parts.1 p) ∙ one-add (length ws)
 
-lead_spaces : (k : ℕ) (b : ℕ) (bs : List ℕ) → is_blank b ≡ false → prefix_len (is_of true) (replicate k 32 ++ b ∷ bs) ≡ k
+lead_spaces : (k : ℕ) (b : ℕ) (bs : List ℕ) → is_blank b ≡ false → prefix_len is_blank (replicate k 32 ++ b ∷ bs) ≡ k
 lead_spaces zero b bs e = cond-false _ _ 0 e
 lead_spaces (suc k) b bs e = ap (λ n. 1 + n) (lead_spaces k b bs e) ∙ one-add k
 
@@ -42,13 +42,13 @@ from-word k (b ∷ ws) rest some s =
 -- spaces, a word and what stands behind it
 pub first-is : (k : ℕ) (ws rest : List ℕ) → 0 < length ws → solid ws ≡ true → parted rest ≡ true → first_word (replicate k 32 ++ (ws ++ rest)) ≡ ws
 first-is k ws rest some s p =
-    ap (λ line. take (prefix_len (is_of false) line) line) (from-word k ws rest some s)
+    ap (λ line. take (prefix_len is_solid line) line) (from-word k ws rest some s)
     ∙ ap (λ n. take n (ws ++ rest)) (lead_word ws rest s p)
     ∙ take_at ws rest (length ws) refl
 
 pub after_is : (k : ℕ) (ws rest : List ℕ) → 0 < length ws → solid ws ≡ true → parted rest ≡ true → after_word (replicate k 32 ++ (ws ++ rest)) ≡ rest
 after_is k ws rest some s p =
-    ap (λ line. drop (prefix_len (is_of false) line) line) (from-word k ws rest some s)
+    ap (λ line. drop (prefix_len is_solid line) line) (from-word k ws rest some s)
     ∙ ap (λ n. drop n (ws ++ rest)) (lead_word ws rest s p)
     ∙ drop_at ws rest (length ws) refl
 

@@ -1,25 +1,24 @@
-use Rattle.std.specs.Prelude.{ℕ, zero, suc, Bool, true, false, not, ◌||◌, List, take, drop, ◌==◌}
+use Rattle.std.specs.Prelude.{ℕ, zero, suc, Bool, not, ◌||◌, List, take, drop, ◌==◌}
 use Rattle.std.specs.List.{prefix_len}
 
 -- a space, a tab or a carriage return
 abbrev pub is_blank : ℕ → Bool
 is_blank b = b == 32 || (b == 9 || b == 13)
 
--- a blank, or none
-abbrev pub is_of : Bool → ℕ → Bool
-is_of true b = is_blank b
-is_of false b = not (is_blank b)
+-- none of them
+abbrev pub is_solid : ℕ → Bool
+is_solid b = not (is_blank b)
 
 -- a line from its first word on
 abbrev pub from_word : List ℕ → List ℕ
-from_word line = drop (prefix_len (is_of true) line) line
+from_word line = drop (prefix_len is_blank line) line
 
 -- the first word of a line, which is empty if there is none, and what stands behind it
 abbrev pub first_word : List ℕ → List ℕ
-first_word line = take (prefix_len (is_of false) (from_word line)) (from_word line)
+first_word line = take (prefix_len is_solid (from_word line)) (from_word line)
 
 abbrev pub after_word : List ℕ → List ℕ
-after_word line = drop (prefix_len (is_of false) (from_word line)) (from_word line)
+after_word line = drop (prefix_len is_solid (from_word line)) (from_word line)
 
 -- the word of a number, counted from 0, which is empty if there are fewer
 unfoldable pub word_in : List ℕ → ℕ → List ℕ
