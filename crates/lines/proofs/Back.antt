@@ -5,14 +5,15 @@ use Rattle.std.proofs.lemmas.Bool.{and_from, and_parts, cond-false, cond-true, l
 use Rattle.std.proofs.lemmas.Bool.Decides.{nat_tests}
 use Rattle.std.specs.Char.{is_ascii_digit}
 use Rattle.std.specs.Str.{all_ascii_digits}
-use Rattle.lines.proofs.Rows.{written}
-use Rattle.lines.proofs.Split.{after_is, column-after, column-first, first-is, own, parted, solid}
+use Rattle.lines.proofs.Fields.{own}
+use Rattle.lines.proofs.Rows.{on}
+use Rattle.lines.proofs.Split.{after_is, column-after, column-first, first-is, parted, solid}
 use Rattle.lines.specs.Faults.{and_then, placed}
-use Rattle.lines.specs.Fields.{label_of, number_of, rank_of, ranked, read_on, value_of}
-use Rattle.lines.specs.Lines.{end_at, is_comment, label_at, line_of, number_at, rank_at, row_in}
+use Rattle.lines.specs.Fields.{end_of, label_of, number_of, rank_of, ranked, read_on, value_of}
+use Rattle.lines.specs.Lines.{is_comment, line_of, row_in}
 use Rattle.lines.specs.Prints.{ParsesBack, column, is_one_line, label_text, row_text}
 use Rattle.lines.specs.Words.{after_word, first_word, word_in}
-use Rattle.lines.specs.declared.fault.Reason.TheVariants.{Missing, NotANumber, TooLarge, RankAbove, Extra}
+use Rattle.lines.specs.declared.fault.Reason.TheVariants.{Missing, NotANumber, TooLarge, RankAbove}
 use Rattle.rows.specs.Rows.{is_labelled}
 use Rattle.rows.specs.declared.row.Label.{Label}
 use Rattle.rows.specs.declared.row.Row.{Row}
@@ -93,11 +94,11 @@ module _ (r : Row) (labelled : is_labelled r.label ≡ true) (hm : r.memory < 2 
   hq' : r.processor_rank < 2 ^ 32
   hq' = omega arith
 
-  on : (n : ℕ) → word_in line (suc n) ≡ word_in (columns c1) n
-  on n = next line (columns c1) n (after_is 0 (label_text r.label) (columns c1) (omega arith) (solid-label r.label labelled) refl)
+  on1 : (n : ℕ) → word_in line (suc n) ≡ word_in (columns c1) n
+  on1 n = next line (columns c1) n (after_is 0 (label_text r.label) (columns c1) (omega arith) (solid-label r.label labelled) refl)
 
   on2 : (n : ℕ) → word_in line (suc (suc n)) ≡ word_in (columns c2) n
-  on2 n = on (suc n) ∙ col_next (10, r.memory) c2 n hm
+  on2 n = on1 (suc n) ∙ col_next (10, r.memory) c2 n hm
 
   on3 : (n : ℕ) → word_in line (suc (suc (suc n))) ≡ word_in (columns c3) n
   on3 n = on2 (suc n) ∙ col_next (7, r.compute) c3 n hc
@@ -120,15 +121,14 @@ module _ (r : Row) (labelled : is_labelled r.label ≡ true) (hm : r.memory < 2 
   row_back : Ok r ≡ row_in line
   unfolding row_in
   row_back =
-      written (label_at line 0) (number_at line 1) (number_at line 2) (number_at line 3) (number_at line 4) (rank_at line 5) (rank_at line 6) (end_at line 7)
-      (sym (ap (λ w. placed 0 (label_of w)) w0 ∙ ap (placed 0) (label_back r.label labelled)))
-      (sym (ap (λ w. placed 1 (number_of w)) (on 0 ∙ col_here (10, r.memory) c2 hm) ∙ ap (placed 1) (number_back r.memory hm)))
-      (sym (ap (λ w. placed 2 (number_of w)) (on2 0 ∙ col_here (7, r.compute) c3 hc) ∙ ap (placed 2) (number_back r.compute hc)))
-      (sym (ap (λ w. placed 3 (number_of w)) (on3 0 ∙ col_here (7, r.deadline) c4 hd) ∙ ap (placed 3) (number_back r.deadline hd)))
-      (sym (ap (λ w. placed 4 (number_of w)) (on4 0 ∙ col_here (7, r.period) c5 ht) ∙ ap (placed 4) (number_back r.period ht)))
-      (sym (ap (λ w. placed 5 (rank_of w)) (on5 0 ∙ col_here (11, r.memory_rank) c6 hp') ∙ ap (placed 5) (rank-back r.memory_rank hp)))
-      (sym (ap (λ w. placed 6 (rank_of w)) (on6 0 ∙ col_here (14, r.processor_rank) [] hq') ∙ ap (placed 6) (rank-back r.processor_rank hq)))
-      (sym (ap (λ w. placed 7 (cond (eqb (length w) 0) (Ok tt) (Err Extra))) w7))
+      on _ (sym (ap (λ w. placed 0 (label_of w)) w0 ∙ ap (placed 0) (label_back r.label labelled)))
+      (on _ (sym (ap (λ w. placed 1 (number_of w)) (on1 0 ∙ col_here (10, r.memory) c2 hm) ∙ ap (placed 1) (number_back r.memory hm)))
+      (on _ (sym (ap (λ w. placed 2 (number_of w)) (on2 0 ∙ col_here (7, r.compute) c3 hc) ∙ ap (placed 2) (number_back r.compute hc)))
+      (on _ (sym (ap (λ w. placed 3 (number_of w)) (on3 0 ∙ col_here (7, r.deadline) c4 hd) ∙ ap (placed 3) (number_back r.deadline hd)))
+      (on _ (sym (ap (λ w. placed 4 (number_of w)) (on4 0 ∙ col_here (7, r.period) c5 ht) ∙ ap (placed 4) (number_back r.period ht)))
+      (on _ (sym (ap (λ w. placed 5 (rank_of w)) (on5 0 ∙ col_here (11, r.memory_rank) c6 hp') ∙ ap (placed 5) (rank-back r.memory_rank hp)))
+      (on _ (sym (ap (λ w. placed 6 (rank_of w)) (on6 0 ∙ col_here (14, r.processor_rank) [] hq') ∙ ap (placed 6) (rank-back r.processor_rank hq)))
+      (on _ (sym (ap (λ w. placed 7 (end_of w)) w7)) refl)))))))
 
   line_back : line_of line ≡ Ok (Some r)
   line_back =

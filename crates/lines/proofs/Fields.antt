@@ -1,33 +1,42 @@
-use Rattle.std.proofs.Common.{◌≡◌, ℕ, ◌+◌, ◌-◌, ◌*◌, ◌<◌, ◌≤◌, true, List, [], ◌∷◌, length, get_or, drop, Ok, Err, sym, ap, ◌∙◌, arith}
-use Rattle.std.proofs.lemmas.List.{at_drop_all, at_drop_more}
-use Rattle.std.proofs.lemmas.Bool.{and_parts, cond-false, cond-true, le-ltb, lt-ltb, leb-true}
+use Rattle.std.proofs.Common.{◌≡◌, ℕ, ◌<◌, Bool, true, false, cond, ◌&&◌, eqb, List, [], ◌∷◌, length, Ok, Err, Result, sym, refl, ap, ◌∙◌, arith, rules}
+use Rattle.std.proofs.lemmas.Bool.{false≢true, cond-false, cond-true, le-ltb, lt-ltb}
+use Rattle.std.proofs.lemmas.Fmt.{IsAscii-from_digits}
+use Rattle.std.proofs.lemmas.Str.{IsUtf8-from_ascii}
+use Rattle.std.proofs.lemmas.Str.Parse.{IsNumeralModel, numerals_by_fold, parse_digits}
 use Rattle.std.specs.Char.{is_ascii_digit}
-use Rattle.std.specs.Str.{all_ascii_digits}
-use Rattle.lines.specs.Fields.{read_on, value_of}
-use Rattle.lines.specs.declared.fault.Reason.TheVariants.{TooLarge}
+use Rattle.std.specs.List.{list_all}
+use Rattle.std.specs.Result.{MatchResult}
+use Rattle.std.specs.Str.{IsUtf8, all_ascii_digits}
+use Rattle.std.specs.Str.Parse.{ParsesUnsigned}
+use Rattle.lines.specs.Fields.{number_of, read_on, value_of}
+use Rattle.lines.specs.declared.fault.Reason.{Reason}
+use Rattle.lines.specs.declared.fault.Reason.TheVariants.{NotANumber, TooLarge}
 
--- the first of the digits left, and the others
-pub digits_on : (ds : List ℕ) (i : ℕ) → i < length ds → all_ascii_digits (drop i ds) ≡ true
-    → (48 ≤ get_or ds i 0) × (get_or ds i 0 ≤ 57) × (all_ascii_digits (drop (i + 1) ds) ≡ true)
-digits_on ds i h all =
-    let parts = and_parts (is_ascii_digit (get_or ds i 0)) (all_ascii_digits (drop (i + 1) ds)) (sym (at_drop_more all_ascii_digits ds i 0 h) ∙ all)
-    in let both = and_parts _ _ parts.0
-    in (leb-true _ _ both.0, leb-true _ _ both.1, parts.1)
+pub digits-all : (ds : List ℕ) → list_all is_ascii_digit ds ≡ all_ascii_digits ds
+digits-all [] = refl
+digits-all (c ∷ cs) = ap (λ b. is_ascii_digit c && b) (digits-all cs)
 
--- one digit more
-pub read_more : (n : ℕ) (ds : List ℕ) (i : ℕ) → i < length ds → read_on n (drop i ds) ≡ read_on (10 * n + (get_or ds i 0 - 48)) (drop (i + 1) ds)
-read_more n ds i h = at_drop_more (read_on n) ds i 0 h
+-- the digits of a word, and the number that they write, are those that the library reads
+pub own : IsNumeralModel (λ ds. all_ascii_digits ds ≡ true) (read_on 0)
+own = numerals_by_fold _ (search rules) read_on (search rules)
 
--- more digits never make a number smaller
-pub read_ge : (n : ℕ) (ds : List ℕ) → n ≤ read_on n ds
-read_ge n [] = omega arith
-read_ge n (c ∷ cs) = let later = read_ge (10 * n + (c - 48)) cs in omega arith
+-- the number of a word that is not empty
+some-number : (bs : List ℕ) → eqb (length bs) 0 ≡ false → (b : Bool) → all_ascii_digits bs ≡ b → number_of bs ≡ cond b (value_of bs) (Err NotANumber)
+some-number bs some b is = rw (some, is) refl
 
-pub value-fits : (ds : List ℕ) (n i : ℕ) → length ds ≤ i → read_on n (drop i ds) ≡ read_on 0 ds → n < 4294967296 → Ok n ≡ value_of ds
-value-fits ds n i h left small =
-    let is : n ≡ read_on 0 ds = sym (at_drop_all (read_on n) ds i h) ∙ left
-    in ap Ok is ∙ sym (cond-true _ (Ok (read_on 0 ds)) (Err TooLarge) (lt-ltb (read_on 0 ds) 4294967296 (omega arith)))
+pub no-number : (bs : List ℕ) → eqb (length bs) 0 ≡ false → ¬ (IsUtf8 bs) → (b : Bool) → all_ascii_digits bs ≡ b → Err NotANumber ≡ number_of bs
+no-number bs some not true is = absurd (not (IsUtf8-from_ascii bs (IsAscii-from_digits bs (own.to bs is))))
+no-number bs some not false is = sym (some-number bs some false is)
 
-pub value-large : (ds : List ℕ) (n i : ℕ) → read_on n (drop i ds) ≡ read_on 0 ds → 4294967296 ≤ n → Err TooLarge ≡ value_of ds
-value-large ds n i left large =
-    sym (cond-false _ (Ok (read_on 0 ds)) (Err TooLarge) (le-ltb (read_on 0 ds) 4294967296 (omega (arith, read_ge n (drop i ds)))))
+some_of : (bs : List ℕ) → eqb (length bs) 0 ≡ false → 0 < length bs
+some_of [] e = absurd (false≢true (sym e))
+some_of (b ∷ bs) e = omega arith
+
+pub number-read : {E : Type 0} (bs : List ℕ) (read : Result ℕ E) (out : Result ℕ Reason) → eqb (length bs) 0 ≡ false → all_ascii_digits bs ≡ true → ParsesUnsigned 32 10 bs read
+    → MatchResult read (λ n. out ≡ Ok n) (λ _. out ≡ Err TooLarge) → out ≡ number_of bs
+number-read {E} bs (Ok n) out some digits parsed told =
+    let fits = parse_digits own {E = E} 32 bs (Ok n) parsed digits
+    in told ∙ ap Ok fits.1 ∙ sym (some-number bs some true digits ∙ cond-true _ (Ok (read_on 0 bs)) (Err TooLarge) (lt-ltb (read_on 0 bs) 4294967296 (omega (arith, fits.0.1))))
+number-read {E} bs (Err e) out some digits parsed told =
+    let large : ¬ (read_on 0 bs < 4294967296) = λ small. parse_digits own {E = E} 32 bs (Err e) parsed digits (some_of bs some, omega arith)
+    in told ∙ sym (some-number bs some true digits ∙ cond-false _ (Ok (read_on 0 bs)) (Err TooLarge) (le-ltb (read_on 0 bs) 4294967296 (omega (arith, large))))

@@ -1,13 +1,12 @@
-use Rattle.std.proofs.Common.{◌≡◌, ℕ, zero, suc, ◌+◌, ◌-◌, ◌^◌, ◌<◌, Bool, true, false, not, ◌&&◌, List, [], ◌∷◌, ◌++◌, length, take, drop, replicate, decimal, refl, ap, ◌∙◌, append_assoc, one-add, arith, rules}
+use Rattle.std.proofs.Common.{◌≡◌, ℕ, zero, suc, ◌+◌, ◌-◌, ◌^◌, ◌<◌, Bool, true, false, not, ◌&&◌, List, [], ◌∷◌, ◌++◌, length, take, drop, replicate, decimal, refl, ap, ◌∙◌, append_assoc, one-add, arith}
 use Rattle.std.proofs.lemmas.Fmt.{decimal_nonempty, digits_decimal}
 use Rattle.std.proofs.lemmas.List.{drop_at, length-replicate, take_at}
-use Rattle.std.proofs.lemmas.Str.Parse.{IsNumeralModel, numerals_by_fold}
 use Rattle.std.proofs.lemmas.Bool.{and_from, and_parts, cond-false, cond-true, not-true}
 use Rattle.std.proofs.lemmas.Bool.Decides.{nat_tests}
 use Rattle.std.specs.Char.{is_ascii_digit}
 use Rattle.std.specs.List.{prefix_len}
 use Rattle.std.specs.Str.{all_ascii_digits}
-use Rattle.lines.specs.Fields.{read_on}
+use Rattle.lines.proofs.Fields.{own}
 use Rattle.lines.specs.Prints.{column}
 use Rattle.lines.specs.Words.{after_word, first_word, from_word, is_blank, is_solid}
 
@@ -53,9 +52,6 @@ after_is k ws rest some s p =
     ∙ drop_at ws rest (length ws) refl
 
 -- digits
-pub own : IsNumeralModel (λ ds. all_ascii_digits ds ≡ true) (read_on 0)
-own = numerals_by_fold _ (search rules) read_on (search rules)
-
 dark_digit : (c : ℕ) → is_ascii_digit c ≡ true → not (is_blank c) ≡ true
 dark_digit c e = grind (arith, nat_tests)
 

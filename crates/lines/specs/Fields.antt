@@ -1,8 +1,8 @@
-use Rattle.std.specs.Prelude.{ℕ, ◌+◌, ◌-◌, ◌*◌, cond, ◌&&◌, List, [], ◌∷◌, length, Ok, Err, Result, ◌==◌, nat_le, nat_lt, slice_index}
+use Rattle.std.specs.Prelude.{ℕ, ◌+◌, ◌-◌, ◌*◌, cond, ◌&&◌, List, [], ◌∷◌, length, Ok, Err, Result, ◌==◌, nat_le, nat_lt}
 use Rattle.std.specs.Str.{all_ascii_digits}
 use Rattle.lines.specs.declared.fault.Reason.{Reason}
-use Rattle.lines.specs.declared.fault.Reason.TheVariants.{Missing, NotALabel, NotANumber, TooLarge, RankAbove}
-use Rattle.rows.specs.Rows.{is_labelled}
+use Rattle.lines.specs.declared.fault.Reason.TheVariants.{Missing, NotALabel, NotANumber, TooLarge, RankAbove, Extra}
+use Rattle.rows.specs.Rows.{is_labelled, label_of as label_in}
 use Rattle.rows.specs.declared.row.Label.{Label}
 
 -- the number that digits go on to write behind those of n; 48 is the code of the digit 0
@@ -25,11 +25,11 @@ ranked (Ok n) = cond (nat_le n 255) (Ok n) (Err RankAbove)
 abbrev pub rank_of : List ℕ → Result ℕ Reason
 rank_of word = ranked (number_of word)
 
--- the label of the four bytes of a word
-abbrev pub label_in : List ℕ → Label
-label_in word = record { first = slice_index word 0; second = slice_index word 1; third = slice_index word 2; fourth = slice_index word 3 }
-
 abbrev pub label_of : List ℕ → Result Label Reason
 label_of word =
     cond (length word == 0) (Err Missing)
     (cond (length word == 4 && is_labelled (label_in word)) (Ok (label_in word)) (Err NotALabel))
+
+-- no word
+abbrev pub end_of : List ℕ → Result Unit Reason
+end_of word = cond (length word == 0) (Ok tt) (Err Extra)

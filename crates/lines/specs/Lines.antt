@@ -1,9 +1,8 @@
-use Rattle.std.specs.Prelude.{ℕ, Bool, cond, ◌&&◌, ◌||◌, List, length, Some, None, Ok, Err, Option, Result, ◌==◌, slice_index}
+use Rattle.std.specs.Prelude.{ℕ, Bool, cond, ◌&&◌, ◌||◌, List, length, Some, None, Ok, Option, Result, ◌==◌, slice_index}
 use Rattle.lines.specs.Faults.{and_then, placed}
-use Rattle.lines.specs.Fields.{label_of, number_of, rank_of}
+use Rattle.lines.specs.Fields.{end_of, label_of, number_of, rank_of}
 use Rattle.lines.specs.Words.{word_in}
 use Rattle.lines.specs.declared.fault.BadWord.{BadWord}
-use Rattle.lines.specs.declared.fault.Reason.TheVariants.{Extra}
 use Rattle.rows.specs.declared.row.Label.{Label}
 use Rattle.rows.specs.declared.row.Row.{Row}
 
@@ -19,7 +18,7 @@ rank_at line n = placed n (rank_of (word_in line n))
 
 -- no word stands there
 abbrev pub end_at : List ℕ → ℕ → Result Unit BadWord
-end_at line n = placed n (cond (length (word_in line n) == 0) (Ok tt) (Err Extra))
+end_at line n = placed n (end_of (word_in line n))
 
 -- the row of what the words read as, or the first fault
 abbrev pub row_from : Result Label BadWord → Result ℕ BadWord → Result ℕ BadWord → Result ℕ BadWord → Result ℕ BadWord → Result ℕ BadWord → Result ℕ BadWord

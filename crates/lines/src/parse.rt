@@ -1,55 +1,38 @@
-ghost use Rattle.lines.specs.Lines.{end_at, is_comment, label_at, line_of, number_at, rank_at, row_in};
+ghost use Rattle.lines.specs.Faults.{placed};
+ghost use Rattle.lines.specs.Lines.{is_comment, line_of, row_in};
+ghost use Rattle.lines.specs.Words.{word_in};
+ghost use Rattle.std.specs.Fn.{FnOnceReturnsAt};
 ghost use Rattle.std.specs.Prelude.{◌≡◌};
 
 use crate::fault::{BadWord, Reason};
-use crate::field::{label, number, placed, rank};
+use crate::field::{end, label, number, rank};
 use crate::word::word;
-use rows::row::{Label, Row};
+use rows::row::Row;
 
-fn label_at(line: &[u8], at: usize) -> Result<Label, BadWord>
-    ensures { result ≡ label_at line.now at }
+// What a word of a line reads as; a fault is told with the word's number.
+fn field<T, F: FnOnce(&[u8]) -> Result<T, Reason>>(
+    line: &[u8],
+    at: usize,
+    read: F,
+) -> Result<T, BadWord>
+    requires { F.IsAlwaysCallable read }
+    ensures { (value : _) × FnOnceReturnsAt F.FnOnce read (word_in line.now at) value × (result ≡ placed at value) }
 {
-    placed(at, label(word(line, at)))
-}
-
-fn number_at(line: &[u8], at: usize) -> Result<u32, BadWord>
-    ensures { result ≡ number_at line.now at }
-{
-    placed(at, number(word(line, at)))
-}
-
-fn rank_at(line: &[u8], at: usize) -> Result<u8, BadWord>
-    ensures { result ≡ rank_at line.now at }
-{
-    placed(at, rank(word(line, at)))
-}
-
-// Whether the line has no such word.
-fn end_at(line: &[u8], at: usize) -> Result<(), BadWord>
-    ensures { result ≡ end_at line.now at }
-{
-    if word(line, at).is_empty() {
-        Ok(())
-    } else {
-        Err(BadWord {
-            word: at,
-            reason: Reason::Extra,
-        })
-    }
+    read(word(line, at)).map_err(|reason| BadWord { word: at, reason })
 }
 
 // The row that the words of a line write, whatever its figures; the first faulty word decides.
 fn row(line: &[u8]) -> Result<Row, BadWord>
     ensures { result ≡ row_in line.now }
 {
-    let label = label_at(line, 0)?;
-    let memory = number_at(line, 1)?;
-    let compute = number_at(line, 2)?;
-    let deadline = number_at(line, 3)?;
-    let period = number_at(line, 4)?;
-    let memory_rank = rank_at(line, 5)?;
-    let processor_rank = rank_at(line, 6)?;
-    end_at(line, 7)?;
+    let label = field(line, 0, label)?;
+    let memory = field(line, 1, number)?;
+    let compute = field(line, 2, number)?;
+    let deadline = field(line, 3, number)?;
+    let period = field(line, 4, number)?;
+    let memory_rank = field(line, 5, rank)?;
+    let processor_rank = field(line, 6, rank)?;
+    field(line, 7, end)?;
     Ok(Row {
         memory,
         compute,
@@ -65,7 +48,7 @@ fn row(line: &[u8]) -> Result<Row, BadWord>
 fn is_comment(first: &[u8]) -> bool
     ensures { result ≡ is_comment first.now }
 {
-    first.is_empty() || first.len() == 1 && first[0] == b'#'
+    matches!(first, [] | [b'#'])
 }
 
 // What a line of a table writes: no row if it is empty or a comment, otherwise a row or the first faulty word.
@@ -75,6 +58,5 @@ pub fn parse_line(line: &[u8]) -> Result<Option<Row>, BadWord>
     if is_comment(word(line, 0)) {
         return Ok(None);
     }
-    let row = row(line)?;
-    Ok(Some(row))
+    row(line).map(Some)
 }
