@@ -11,10 +11,10 @@ use Rattle.lines.proofs.Split.{after_is, column-after, column-first, first-is, p
 use Rattle.lines.specs.Faults.{and_then, placed}
 use Rattle.lines.specs.Fields.{end_of, label_of, number_of, rank_of, ranked, read_on, value_of}
 use Rattle.lines.specs.Lines.{is_comment, line_of, row_in}
-use Rattle.lines.specs.Prints.{ParsesBack, column, is_one_line, label_text, row_text}
+use Rattle.lines.specs.Prints.{ParsesBack, column, is_one_line, row_text}
 use Rattle.lines.specs.Words.{after_word, first_word, word_in}
 use Rattle.lines.specs.declared.fault.Reason.TheVariants.{Missing, NotANumber, TooLarge, RankAbove}
-use Rattle.rows.specs.Rows.{is_labelled}
+use Rattle.rows.specs.Rows.{is_labelled, label_bytes}
 use Rattle.rows.specs.declared.row.Label.{Label}
 use Rattle.rows.specs.declared.row.Row.{Row}
 
@@ -31,10 +31,10 @@ number_back n h =
 rank-back : (n : ℕ) → n < 2 ^ 8 → rank_of (decimal n) ≡ Ok n
 rank-back n h = ap ranked (number_back n (omega arith)) ∙ cond-true _ (Ok n) (Err RankAbove) (le-leb n 255 (omega arith))
 
-label_back : (l : Label) → is_labelled l ≡ true → label_of (label_text l) ≡ Ok l
+label_back : (l : Label) → is_labelled l ≡ true → label_of (label_bytes l) ≡ Ok l
 label_back l e = rw e refl
 
-solid-label : (l : Label) → is_labelled l ≡ true → solid (label_text l) ≡ true
+solid-label : (l : Label) → is_labelled l ≡ true → solid (label_bytes l) ≡ true
 solid-label l e = grind (arith, nat_tests)
 
 -- the words behind the first
@@ -86,7 +86,7 @@ module _ (r : Row) (labelled : is_labelled r.label ≡ true) (hm : r.memory < 2 
   c1 = (10, r.memory) ∷ c2
 
   abbrev line : List ℕ
-  line = label_text r.label ++ columns c1
+  line = label_bytes r.label ++ columns c1
 
   hp' : r.memory_rank < 2 ^ 32
   hp' = omega arith
@@ -95,7 +95,7 @@ module _ (r : Row) (labelled : is_labelled r.label ≡ true) (hm : r.memory < 2 
   hq' = omega arith
 
   on1 : (n : ℕ) → word_in line (suc n) ≡ word_in (columns c1) n
-  on1 n = next line (columns c1) n (after_is 0 (label_text r.label) (columns c1) (omega arith) (solid-label r.label labelled) refl)
+  on1 n = next line (columns c1) n (after_is 0 (label_bytes r.label) (columns c1) (omega arith) (solid-label r.label labelled) refl)
 
   on2 : (n : ℕ) → word_in line (suc (suc n)) ≡ word_in (columns c2) n
   on2 n = on1 (suc n) ∙ col_next (10, r.memory) c2 n hm
@@ -112,8 +112,8 @@ module _ (r : Row) (labelled : is_labelled r.label ≡ true) (hm : r.memory < 2 
   on6 : (n : ℕ) → word_in line (suc (suc (suc (suc (suc (suc n)))))) ≡ word_in (columns c6) n
   on6 n = on5 (suc n) ∙ col_next (11, r.memory_rank) c6 n hp'
 
-  w0 : word_in line 0 ≡ label_text r.label
-  w0 = here line (label_text r.label) (first-is 0 (label_text r.label) (columns c1) (omega arith) (solid-label r.label labelled) refl)
+  w0 : word_in line 0 ≡ label_bytes r.label
+  w0 = here line (label_bytes r.label) (first-is 0 (label_bytes r.label) (columns c1) (omega arith) (solid-label r.label labelled) refl)
 
   w7 : word_in line 7 ≡ []
   w7 = on6 1 ∙ col_next (14, r.processor_rank) [] 0 hq' ∙ no_word
@@ -155,7 +155,7 @@ single_column : (w n : ℕ) → n < 2 ^ 64 → is_one_line (column w n) ≡ true
 single_column w n h =
     single_on (replicate (w - length (decimal n)) 32) (decimal n) (single_spaces (w - length (decimal n))) (single_digits (decimal n) (digits_decimal own n h))
 
-single_label : (l : Label) → is_labelled l ≡ true → is_one_line (label_text l) ≡ true
+single_label : (l : Label) → is_labelled l ≡ true → is_one_line (label_bytes l) ≡ true
 single_label l e = grind (arith, nat_tests)
 
 -- parsing the line of a row gives the row back
@@ -174,6 +174,6 @@ parses_back r hm hc hd ht hp hq labelled =
     in let s2 = single_on (column 7 r.compute) d (single_column 7 r.compute (omega arith)) s3
     in let s1 = single_on (column 10 r.memory) n (single_column 10 r.memory (omega arith)) s2
     in record {
-      single = single_on (label_text r.label) m (single_label r.label labelled) s1;
+      single = single_on (label_bytes r.label) m (single_label r.label labelled) s1;
       parsed = ap line_of (simp (append-nil)) ∙ line_back r labelled hm hc hd ht hp hq;
     }

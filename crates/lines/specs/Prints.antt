@@ -1,22 +1,21 @@
 use Rattle.std.specs.Prelude.{◌≡◌, ℕ, ◌-◌, Bool, true, not, ◌&&◌, List, [], ◌∷◌, ◌++◌, length, replicate, Some, Ok, decimal, ◌==◌}
 use Rattle.lines.specs.Lines.{line_of}
-use Rattle.rows.specs.Rows.{is_labelled}
-use Rattle.rows.specs.declared.row.Label.{Label}
+use Rattle.rows.specs.Rows.{is_labelled, label_bytes}
 use Rattle.rows.specs.declared.row.Row.{Row}
 
 -- a number in decimal at the end of a column, with at least one space (32) before it
 abbrev pub column : ℕ → ℕ → List ℕ
 column width n = 32 ∷ (replicate (width - length (decimal n)) 32 ++ decimal n)
 
-abbrev pub label_text : Label → List ℕ
-label_text l = l.first ∷ l.second ∷ l.third ∷ l.fourth ∷ []
+-- the six numbers of a row, in columns
+abbrev pub numbers_text : Row → List ℕ
+numbers_text r =
+    column 10 r.memory
+    ++ (column 7 r.compute ++ (column 7 r.deadline ++ (column 7 r.period ++ (column 11 r.memory_rank ++ column 14 r.processor_rank))))
 
--- the line of a row: its label and its six numbers, in columns
+-- the line of a row: its label and its numbers
 unfoldable pub row_text : Row → List ℕ
-row_text r =
-    label_text r.label
-    ++ (column 10 r.memory
-    ++ (column 7 r.compute ++ (column 7 r.deadline ++ (column 7 r.period ++ (column 11 r.memory_rank ++ column 14 r.processor_rank)))))
+row_text r = label_bytes r.label ++ numbers_text r
 
 -- no byte is a line's end (10)
 abbrev pub is_one_line : List ℕ → Bool

@@ -1,28 +1,25 @@
-ghost use Rattle.lines.specs.Prints.{ParsesBack, column, row_text};
-ghost use Rattle.std.specs.Prelude.{◌≡◌, ◌++◌, replicate, OnOk};
+ghost use Rattle.lines.specs.Prints.{ParsesBack, numbers_text, row_text};
+ghost use Rattle.std.specs.Prelude.{◌≡◌, ◌++◌, IfOk, OnOk, string_bytes};
 
 use rows::row::Row;
 use std::alloc::{AllocError, Global};
 
-// Puts so many spaces.
-fn put_spaces(out: &mut Vec<u8>, count: usize) -> Result<(), AllocError>
-    ensures { OnOk result (out.new.items ≡ out.old.items ++ replicate count 32) }
+// The numbers of a row in decimal, each at the end of a column, behind at least one space.
+fn numbers(heap: Global, row: Row) -> Result<String, AllocError>
+    ensures { IfOk result (λ text. string_bytes text ≡ numbers_text row) }
 {
-    for _i in 0..count {
-        out.push(b' ')?;
-    }
-    Ok(())
-}
-
-// Puts a number in decimal at the end of a column, behind at least one space.
-fn put_column(heap: Global, out: &mut Vec<u8>, width: usize, n: u32) -> Result<(), AllocError>
-    ensures { OnOk result (out.new.items ≡ out.old.items ++ column width n) }
-{
-    let digits = n.to_string(heap)?;
-    out.push(b' ')?;
-    put_spaces(out, width.saturating_sub(digits.len()))?;
-    out.extend_from_slice(digits.as_bytes())?;
-    Ok(())
+    let Row {
+        memory,
+        compute,
+        deadline,
+        period,
+        memory_rank,
+        processor_rank,
+        ..
+    } = row;
+    format!(in heap;
+        " {memory:>10} {compute:>7} {deadline:>7} {period:>7} {memory_rank:>11} {processor_rank:>14}"
+    )
 }
 
 // Puts the line of a row, without a line's end: its label and its numbers, in columns for reading. Parsing the line gives
@@ -31,13 +28,8 @@ pub fn put_row(heap: Global, out: &mut Vec<u8>, row: Row) -> Result<(), AllocErr
     ensures text { OnOk result (out.new.items ≡ out.old.items ++ row_text row) }
     ensures back { OnOk result (ParsesBack row) }
 {
-    let label = row.label;
-    out.extend_from_slice(&[label.first, label.second, label.third, label.fourth])?;
-    put_column(heap, out, 10, row.memory)?;
-    put_column(heap, out, 7, row.compute)?;
-    put_column(heap, out, 7, row.deadline)?;
-    put_column(heap, out, 7, row.period)?;
-    put_column(heap, out, 11, row.memory_rank as u32)?;
-    put_column(heap, out, 14, row.processor_rank as u32)?;
+    let numbers = numbers(heap, row)?;
+    out.extend_from_slice(&<[u8; 4]>::from(row.label))?;
+    out.extend_from_slice(numbers.as_bytes())?;
     Ok(())
 }
