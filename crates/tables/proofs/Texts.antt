@@ -1,36 +1,87 @@
-use Rattle.std.proofs.Common.{◌≡◌, ℕ, suc, ◌+◌, ◌-◌, ◌<◌, ◌≤◌, Bool, true, false, cond, not, eqb, List, [], ◌∷◌, length, take, drop, sym, refl, ap, ◌∙◌, one-add, arith}
-use Rattle.std.proofs.lemmas.List.{drop_all}
-use Rattle.std.specs.List.{prefix_len}
+use Rattle.std.proofs.Common.{◌≡◌, ℕ, zero, suc, ◌+◌, Bool, true, false, eqb, List, [], ◌∷◌, ◌++◌, get_or, Option, Some, None, Bor, sym, refl, ap, ◌∙◌, one-add, arith}
+use Rattle.std.proofs.lemmas.Option.{unwrap_or-slice_get}
+use Rattle.std.specs.List.{onto_first, prefix_len, slice_get, slice_split}
+use Rattle.std.specs.Option.{UnwrapsOrElse, option_map, unwrap_or}
 use Rattle.tables.specs.Texts.{behind_line, first_line, is_inside, line_in, lines_in, onto}
 
--- behind the last line there is nothing
-pub behind_last : (text : List ℕ) (n : ℕ) → length text ≤ n → drop n text ≡ drop (n + 1) text
-behind_last text n h = drop_all n text h ∙ sym (drop_all (n + 1) text (omega arith))
+-- the pieces of a text between its lines' ends, the last of which may be empty
+abbrev pub is_end : ℕ → Bool
+is_end b = eqb b 10
 
--- one line on
-pub line_on : (text : List ℕ) (n i : ℕ) → i < n → line_in text (n - i) ≡ line_in (behind_line text) (n - (i + 1))
+abbrev pub pieces : List ℕ → List (List ℕ)
+pieces text = slice_split is_end text
+
+first_onto : (b : ℕ) (xs : List (List ℕ)) → get_or (onto_first b xs) 0 [] ≡ b ∷ get_or xs 0 []
+first_onto b [] = refl
+first_onto b (x ∷ xs) = refl
+
+others_onto : (b : ℕ) (xs : List (List ℕ)) (n : ℕ) → get_or (onto_first b xs) (suc n) [] ≡ get_or xs (suc n) []
+others_onto b [] n = refl
+others_onto b (x ∷ xs) n = refl
+
+-- the first piece of a text is its first line, and the others are those behind it
+record Firsts (text : List ℕ) : Type 0 where
+  first : get_or (pieces text) 0 [] ≡ first_line text
+  others : (n : ℕ) → get_or (pieces text) (suc n) [] ≡ get_or (pieces (behind_line text)) n []
+
+firsts_on : (t : Bool) (b : ℕ) (bs : List ℕ) → eqb b 10 ≡ t → Firsts bs → Firsts (b ∷ bs)
+firsts_on true b bs e f =
+    let behind : behind_line (b ∷ bs) ≡ bs = rw e refl
+    in let is : pieces (b ∷ bs) ≡ [] ∷ pieces bs = rw e refl
+    in record { first = rw e refl; others = λ n. ap (λ ps. get_or ps (suc n) []) is ∙ sym (ap (λ rest. get_or (pieces rest) n []) behind) }
+firsts_on false b bs e f =
+    let k = prefix_len is_inside bs
+    in let next : 1 + k + 1 ≡ suc (k + 1) = omega arith
+    in let behind : behind_line (b ∷ bs) ≡ behind_line bs = rw (e, next) refl
+    in let is : pieces (b ∷ bs) ≡ onto_first b (pieces bs) = rw e refl
+    in let front : first_line (b ∷ bs) ≡ b ∷ first_line bs = rw (e, one-add k) refl
+    in record {
+      first = ap (λ ps. get_or ps 0 []) is ∙ first_onto b (pieces bs) ∙ ap (λ bs. b ∷ bs) f.first ∙ sym front;
+      others = λ n. ap (λ ps. get_or ps (suc n) []) is ∙ others_onto b (pieces bs) n ∙ f.others n ∙ sym (ap (λ rest. get_or (pieces rest) n []) behind);
+    }
+
+nothing : (n : ℕ) → get_or (pieces []) (suc n) [] ≡ get_or (pieces []) n []
+nothing zero = refl
+nothing (suc n) = refl
+
+firsts : (text : List ℕ) → Firsts text
+firsts [] = record { first = refl; others = nothing }
+firsts (b ∷ bs) = firsts_on (eqb b 10) b bs refl (firsts bs)
+
+-- the line of a number is the piece of that place
+pub line-piece : (text : List ℕ) (n : ℕ) → get_or (pieces text) n [] ≡ line_in text n
 unfolding line_in
-line_on text n i h = let e : n - i ≡ suc (n - (i + 1)) = omega arith in ap (line_in text) e
+line-piece text zero = (firsts text).first
+line-piece text (suc n) = (firsts text).others n ∙ line-piece (behind_line text) n
 
-pub line_here : (text : List ℕ) (n i : ℕ) → n ≤ i → line_in text (n - i) ≡ first_line text
-unfolding line_in
-line_here text n i h = let e : n - i ≡ 0 = omega arith in ap (line_in text) e
+-- what is taken of a place of a list, or the empty one
+pub taken : (r : Option (Bor (List ℕ))) (x : Bor (List ℕ)) (ps : List (List ℕ)) (n : ℕ) → UnwrapsOrElse r (λ y. y.now ≡ []) x → option_map (λ y. y.now) r ≡ slice_get ps n
+    → x.now ≡ get_or ps n []
+taken None x ps n is at = is ∙ ap (λ o. unwrap_or o []) at ∙ unwrap_or-slice_get ps n []
+taken (Some y) x ps n is at = ap (λ z. z.now) is ∙ ap (λ o. unwrap_or o []) at ∙ unwrap_or-slice_get ps n []
 
--- a byte that ends the line, or goes in front of it
-one_on : (t : Bool) (b n : ℕ) (bs : List ℕ) → onto b (lines_in bs) ≡ (b ∷ take n bs) ∷ lines_in (drop (n + 1) bs)
-    → cond t ([] ∷ lines_in bs) (onto b (lines_in bs)) ≡ take (cond (not t) (1 + n) 0) (b ∷ bs) ∷ lines_in (drop (cond (not t) (1 + n) 0 + 1) (b ∷ bs))
-one_on true b n bs e = refl
-one_on false b n bs e =
-    let one : 1 + n ≡ suc n = one-add n
-    in let two : 1 + n + 1 ≡ suc (n + 1) = omega arith
-    in rw (two, one) e
+-- the pieces are the lines, and one empty piece behind the last line's end
+abbrev pub tail : Bool → List (List ℕ)
+tail true = [] ∷ []
+tail false = []
 
--- a text that is not empty has a first line, and the others stand behind it
-pub lines_on : (b : ℕ) (bs : List ℕ) → lines_in (b ∷ bs) ≡ first_line (b ∷ bs) ∷ lines_in (behind_line (b ∷ bs))
+pub record Lines (text : List ℕ) : Type 0 where
+  pub ended : Bool
+  pub are : pieces text ≡ lines_in text ++ tail ended
+
+onto_lines : (b : ℕ) (lines : List (List ℕ)) (t : Bool) → (u : Bool) × (onto_first b (lines ++ tail t) ≡ onto b lines ++ tail u)
+onto_lines b [] true = (false, refl)
+onto_lines b [] false = (false, refl)
+onto_lines b (line ∷ lines) t = (t, refl)
+
+lines_on : (t : Bool) (b : ℕ) (bs : List ℕ) → eqb b 10 ≡ t → Lines bs → Lines (b ∷ bs)
 unfolding lines_in
-lines_on b [] = one_on (eqb b 10) b 0 [] refl
-lines_on b (c ∷ cs) = one_on (eqb b 10) b (prefix_len is_inside (c ∷ cs)) (c ∷ cs) (ap (onto b) (lines_on c cs))
+lines_on true b bs e l = record { ended = l.ended; are = rw e (ap (λ ps. [] ∷ ps) l.are) }
+lines_on false b bs e l =
+    let o = onto_lines b (lines_in bs) l.ended
+    in record { ended = o.0; are = rw e (ap (onto_first b) l.are ∙ o.1) }
 
-pub lines_none : lines_in [] ≡ []
+pub lines : (text : List ℕ) → Lines text
 unfolding lines_in
-lines_none = refl
+lines [] = record { ended = true; are = refl }
+lines (b ∷ bs) = lines_on (eqb b 10) b bs refl (lines bs)

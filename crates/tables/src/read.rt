@@ -4,7 +4,6 @@ ghost use Rattle.tables.specs.Tables.{after_line, drafted, in_line, table_of, to
 ghost use Rattle.std.specs.Prelude.{◌≡◌};
 
 use crate::fault::{BadLine, LineFault};
-use crate::split::{behind_line, first_line};
 use lines::parse::parse_line;
 use rows::draft::Draft;
 
@@ -22,13 +21,10 @@ fn take_words(draft: &mut Draft, line: &[u8]) -> Result<(), LineFault>
 fn take_line(draft: &mut Draft, number: usize, line: &[u8]) -> Result<(), BadLine>
     ensures { told (rows_of draft.new) result ≡ in_line number (after_line (rows_of draft.old) (line_of line.now)) }
 {
-    match take_words(draft, line) {
-        Ok(()) => Ok(()),
-        Err(fault) => Err(BadLine {
-            line: number,
-            fault,
-        }),
-    }
+    take_words(draft, line).map_err(|fault| BadLine {
+        line: number,
+        fault,
+    })
 }
 
 // The rows that a table writes, as a draft; the first faulty line decides.
@@ -36,12 +32,8 @@ pub fn read_table(text: &[u8]) -> Result<Draft, BadLine>
     ensures { drafted result ≡ table_of text.now }
 {
     let mut draft = Draft::new();
-    let mut rest = text;
-    let mut number = 0;
-    while !rest.is_empty() {
-        number += 1;
-        take_line(&mut draft, number, first_line(rest))?;
-        rest = behind_line(rest);
+    for (passed, line) in text.split(|byte| *byte == b'\n').enumerate() {
+        take_line(&mut draft, passed + 1, line)?;
     }
     Ok(draft)
 }

@@ -1,36 +1,59 @@
-use Rattle.std.proofs.Common.{◌+◌, Err, sym, ap, ◌∙◌, arith}
-use Rattle.std.proofs.lemmas.Result.{err_from_is_err_and}
-use Rattle.std.proofs.lemmas.Bool.{eqb-true}
+use Rattle.std.proofs.Common.{◌+◌, drop, length, rules, tests, ap, ◌∙◌, arith}
+use Rattle.std.proofs.lemmas.Iterator.Consumers.{YieldsList-at, YieldsList-end, YieldsList-from_enumerate, YieldsList-turn}
+use Rattle.std.proofs.lemmas.Iterator.Splits.{YieldsList-from_slice_split}
+use Rattle.std.proofs.lemmas.List.{length_push}
+use Rattle.std.proofs.lemmas.List.FromFn.{length-enumerate_from}
 use Rattle.rows.specs.Drafts.{rows_of}
-use Rattle.tables.specs.Tables.{drafted}
-use Rattle.tables.proofs.Taken.{behind_less, some_of, table_ends, table_next, table_stops}
+use Rattle.tables.specs.Tables.{table_from}
+use Rattle.tables.proofs.Taken.{at_turn, refused, table_ends, table_next, table_pieces, table_stops}
+use Rattle.tables.proofs.Texts.{is_end, pieces}
 use Rattle.tables.proofs.read.read_table.Goals as goal
+
+pub loop-passed-init : goal.loop-passed-init
+loop-passed-init c = ap (λ rows. table_from 1 rows (pieces c.args.text.now)) c.new-draft.ensures ∙ table_pieces c.args.text.now
+
+pub loop-passed-preserved : goal.loop-passed-preserved
+loop-passed-preserved c =
+    let turn =
+    at_turn (pieces c.args.text.now) (length c.loop-passed.yielded) c.in-Some.passed c.in-Some.line.now
+    (YieldsList-turn
+    (YieldsList-at c.into_iter-passed-iterator.ensures.into_iter_gives
+    (YieldsList-from_enumerate
+    (YieldsList-at c.enumerate-passed-items.ensures.source
+    (YieldsList-from_slice_split _ is_end c.args.text.now c.split.ensures.rest c.split.ensures.done c.split.ensures.closure (λ x r q k. search (rules, tests))))
+    c.enumerate-passed-items.ensures.count))
+    c.loop-passed.yielded _ c.loop-passed.yielded_by _ _ (c.in-Some.passed, c.in-Some.line) c.in-Some.is c.next.ensures.steps)
+    in ap (λ j. table_from (j + 1) (rows_of c.take_line.new.draft) (drop j (pieces c.args.text.now))) (length_push c.loop-passed.yielded (c.in-Some.passed, c.in-Some.line))
+    ∙ table_next (length c.loop-passed.yielded) c.in-Some.passed (rows_of c.loop-passed.draft) (rows_of c.take_line.new.draft) (pieces c.args.text.now) c.in-Some.line.now turn
+    c.in_ok-take_line.ensures
+    ∙ c.loop-passed.invariant
 
 pub returns-in_err-take_line : goal.returns-in_err-take_line
 returns-in_err-take_line c =
-    let some = some_of c.loop-rest.rest.now c.loop-rest-test.ensures
-    in let p = err_from_is_err_and c.from_residual.result c.from_residual.ensures.1
-    in ap drafted p.1 ∙ ap Err p.2
-    ∙ table_stops (c.loop-rest.number + 1) (rows_of c.loop-rest.draft) c.loop-rest.rest.now c.first_line.result.now c.in_err-take_line.field-0.0 some c.first_line.ensures
+    let turn =
+    at_turn (pieces c.args.text.now) (length c.loop-passed.yielded) c.in-Some.passed c.in-Some.line.now
+    (YieldsList-turn
+    (YieldsList-at c.into_iter-passed-iterator.ensures.into_iter_gives
+    (YieldsList-from_enumerate
+    (YieldsList-at c.enumerate-passed-items.ensures.source
+    (YieldsList-from_slice_split _ is_end c.args.text.now c.split.ensures.rest c.split.ensures.done c.split.ensures.closure (λ x r q k. search (rules, tests))))
+    c.enumerate-passed-items.ensures.count))
+    c.loop-passed.yielded _ c.loop-passed.yielded_by _ _ (c.in-Some.passed, c.in-Some.line) c.in-Some.is c.next.ensures.steps)
+    in refused c.from_residual.result c.from_residual.ensures.1
+    ∙ table_stops (length c.loop-passed.yielded) c.in-Some.passed (rows_of c.loop-passed.draft) c.in_err-take_line.field-0.0 (pieces c.args.text.now) c.in-Some.line.now turn
     c.in_err-take_line.ensures
-    ∙ c.loop-rest.invariant.0
-
-pub loop-rest-smaller : goal.loop-rest-smaller
-loop-rest-smaller c =
-    let some = some_of c.loop-rest.rest.now c.loop-rest-test.ensures
-    in behind_less c.loop-rest.rest.now c.behind_line-rest.result.now some c.behind_line-rest.ensures
-
-pub loop-rest-preserved : goal.loop-rest-preserved
-loop-rest-preserved c =
-    let some = some_of c.loop-rest.rest.now c.loop-rest-test.ensures
-    in let less = behind_less c.loop-rest.rest.now c.behind_line-rest.result.now some c.behind_line-rest.ensures
-    in (
-      table_next (c.loop-rest.number + 1) (rows_of c.loop-rest.draft) (rows_of c.take_line.new.draft) c.loop-rest.rest.now c.first_line.result.now
-          c.behind_line-rest.result.now some c.first_line.ensures c.behind_line-rest.ensures c.in_ok-take_line.ensures
-          ∙ c.loop-rest.invariant.0,
-      omega (arith, less, c.loop-rest.invariant.1),
-    )
+    ∙ c.loop-passed.invariant
 
 pub returns : goal.returns
 returns c =
-    table_ends (c.loop-rest.number + 1) (rows_of c.loop-rest.draft) c.loop-rest.rest.now (eqb-true _ 0 (sym c.loop-rest-test.ensures)) ∙ c.loop-rest.invariant.0
+    let ends =
+    YieldsList-end
+    (YieldsList-at c.into_iter-passed-iterator.ensures.into_iter_gives
+    (YieldsList-from_enumerate
+    (YieldsList-at c.enumerate-passed-items.ensures.source
+    (YieldsList-from_slice_split _ is_end c.args.text.now c.split.ensures.rest c.split.ensures.done c.split.ensures.closure (λ x r q k. search (rules, tests))))
+    c.enumerate-passed-items.ensures.count))
+    c.loop-passed.yielded _ c.loop-passed.yielded_by _ _ c.in-None.is c.next.ensures.steps
+    in table_ends (length c.loop-passed.yielded + 1) (length c.loop-passed.yielded) (rows_of c.loop-passed.draft) (pieces c.args.text.now)
+    (omega (arith, ends.1, length-enumerate_from 0 (pieces c.args.text.now)))
+    ∙ c.loop-passed.invariant

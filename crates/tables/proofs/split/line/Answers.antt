@@ -1,15 +1,13 @@
-use Rattle.std.proofs.Common.{◌+◌, ◌-◌, sym, ap, ◌∙◌}
-use Rattle.tables.specs.Texts.{line_in}
-use Rattle.tables.proofs.Texts.{line_here, line_on}
+use Rattle.std.proofs.Common.{rules, tests, ◌∙◌}
+use Rattle.std.proofs.lemmas.Iterator.Consumers.{nth_from_yields_List}
+use Rattle.std.proofs.lemmas.Iterator.Splits.{YieldsList-from_slice_split}
+use Rattle.tables.proofs.Texts.{is_end, line-piece, pieces, taken}
 use Rattle.tables.proofs.split.line.Goals as goal
-
-pub loop-passed-preserved : goal.loop-passed-preserved
-loop-passed-preserved c =
-    ap (λ rest. line_in rest (c.args.number - (c.loop-passed._passed + 1))) c.behind_line-rest.ensures
-    ∙ sym (line_on c.loop-passed.rest.now c.args.number c.loop-passed._passed c.loop-passed-test.true)
-    ∙ c.loop-passed.invariant
 
 pub returns : goal.returns
 returns c =
-    c.first_line.ensures ∙ sym (line_here c.loop-passed.rest.now c.args.number c.loop-passed._passed c.loop-passed-test.false)
-    ∙ c.loop-passed.invariant
+    let text = c.args.text.now
+    in taken c.nth.result c.unwrap_or_default.result (pieces text) _ c.unwrap_or_default.ensures
+    (nth_from_yields_List c.nth.result c.nth.new.self _ c.nth.ensures.ran
+    (YieldsList-from_slice_split _ is_end text c.split.ensures.rest c.split.ensures.done c.split.ensures.closure (λ x r q k. search (rules, tests))))
+    ∙ line-piece text c.args.number
