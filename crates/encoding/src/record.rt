@@ -24,10 +24,7 @@ pub fn encode_row(row: Row) -> Record
     record[12..16].copy_from_slice(&row.period.to_be_bytes());
     record[16] = row.memory_rank;
     record[17] = row.processor_rank;
-    record[20] = row.label.first;
-    record[21] = row.label.second;
-    record[22] = row.label.third;
-    record[23] = row.label.fourth;
+    record[20..24].copy_from_slice(&<[u8; 4]>::from(row.label));
     record
 }
 
