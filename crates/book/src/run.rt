@@ -1,9 +1,8 @@
 use filter::convert::{make_book, show_book};
-use filter::fault::{MakeFault, ShowFault};
+use filter::fault::ConvertFault;
 use lines::fault::BadWord;
 use lines::word::word;
-use listing::listing::list_fault;
-use rows::fault::{EditFault, LoadFault};
+use rows::fault::{EditFault, LoadFault, Refusal};
 use std::io;
 use std::io::{Read, Write};
 use tables::fault::{BadLine, LineFault};
@@ -21,40 +20,45 @@ impl From<io::Error> for Failed {
 
 // Reads a table on standard input, at most 65,520 bytes, and writes its book to standard output.
 pub(crate) fn make(rt: &HostRuntime) -> Result<(), Failed> {
-    let mut text = Vec::new(rt.alloc());
-    rt.stdin().take(65_521).read_to_end(&mut text)?;
+    let text = input(rt, 65_521)?;
     if text.len() > 65_520 {
         eprintln!(rt; "the table has more than 65520 bytes")?;
         return Err(Failed);
     }
-    match make_book(rt.alloc(), &text) {
-        Ok(book) => rt.stdout().write_all(&book)?,
-        Err(MakeFault::Table(bad)) => {
-            tell_line(rt, &text, bad)?;
-            return Err(Failed);
-        }
-        Err(MakeFault::Memory) => return out_of_memory(rt),
-    }
-    Ok(())
+    let book = make_book(rt.alloc(), &text);
+    output(rt, book, |bad| tell_line(rt, &text, bad))
 }
 
 // Reads a book on standard input, at most 65,520 bytes of it, and writes its table to standard output.
 pub(crate) fn show(rt: &HostRuntime) -> Result<(), Failed> {
-    let mut book = Vec::new(rt.alloc());
-    rt.stdin().take(65_520).read_to_end(&mut book)?;
-    match show_book(rt.alloc(), &book) {
-        Ok(table) => rt.stdout().write_all(&table)?,
-        Err(ShowFault::Load(fault)) => {
-            tell_fault(rt, fault)?;
-            return Err(Failed);
-        }
-        Err(ShowFault::Memory) => return out_of_memory(rt),
-    }
-    Ok(())
+    let book = input(rt, 65_520)?;
+    let table = show_book(rt.alloc(), &book);
+    output(rt, table, |fault| tell_fault(rt, fault))
 }
 
-fn out_of_memory(rt: &HostRuntime) -> Result<(), Failed> {
-    eprintln!(rt; "not enough memory")?;
+// What stands on standard input, or so many bytes of it.
+fn input(rt: &HostRuntime, limit: u64) -> io::Result<Vec<u8>> {
+    let mut bytes = Vec::new(rt.alloc());
+    rt.stdin().take(limit).read_to_end(&mut bytes)?;
+    Ok(bytes)
+}
+
+// Writes what a file was converted to, or tells why it was not.
+fn output<F, T: FnOnce(F) -> io::Result<()>>(
+    rt: &HostRuntime,
+    converted: Result<Vec<u8>, ConvertFault<F>>,
+    tell: T,
+) -> Result<(), Failed>
+    requires { T.IsAlwaysCallable tell }
+{
+    match converted {
+        Ok(bytes) => {
+            rt.stdout().write_all(&bytes)?;
+            return Ok(());
+        }
+        Err(ConvertFault::Input(fault)) => tell(fault)?,
+        Err(ConvertFault::Memory) => eprintln!(rt; "not enough memory")?,
+    }
     Err(Failed)
 }
 
@@ -89,9 +93,6 @@ fn tell_edit(rt: &HostRuntime, line: &[u8], fault: EditFault) -> io::Result<()> 
 
 // Tells why a book is turned down, as a listing does.
 fn tell_fault(rt: &HostRuntime, fault: LoadFault) -> io::Result<()> {
-    let mut out = [0; 1292];
-    match list_fault(&fault, &mut out) {
-        Ok(n) => rt.stderr().write_all(&out[0..n]),
-        Err(_) => Ok(()),
-    }
+    let refusal = Refusal::from(fault);
+    eprintln!(rt; "{refusal}")
 }

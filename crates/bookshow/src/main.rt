@@ -1,7 +1,6 @@
 #![tactic(auto)]
 
 use filter::convert::show_book;
-use filter::fault::ShowFault;
 use std::io;
 use std::io::{Read, Write};
 use std::process::ExitCode;

@@ -1,14 +1,16 @@
 ghost use Rattle.filter.specs.Convert.{Makes, Shows};
 
-use crate::fault::{MakeFault, ShowFault};
+use crate::fault::ConvertFault;
 use encoding::record::encode_draft;
 use rows::draft::Draft;
+use rows::fault::LoadFault;
 use std::alloc::Global;
+use tables::fault::BadLine;
 use tables::read::read_table;
 use tables::write::write_table;
 
 // The book of the rows that a table writes.
-pub fn make_book(heap: Global, text: &[u8]) -> Result<Vec<u8>, MakeFault>
+pub fn make_book(heap: Global, text: &[u8]) -> Result<Vec<u8>, ConvertFault<BadLine>>
     ensures { Makes text.now result }
 {
     let draft = read_table(text)?;
@@ -17,7 +19,7 @@ pub fn make_book(heap: Global, text: &[u8]) -> Result<Vec<u8>, MakeFault>
 }
 
 // The table of the rows of a book.
-pub fn show_book(heap: Global, book: &[u8]) -> Result<Vec<u8>, ShowFault>
+pub fn show_book(heap: Global, book: &[u8]) -> Result<Vec<u8>, ConvertFault<LoadFault>>
     ensures { Shows book.now result }
 {
     let mut draft = Draft::new();

@@ -1,57 +1,39 @@
-ghost use Rattle.filter.specs.declared.fault.MakeFault.TheVariants.{Memory as MakeMemory, Table as InTable};
-ghost use Rattle.filter.specs.declared.fault.ShowFault.TheVariants.{Load as InLoad, Memory as ShowMemory};
+ghost use Rattle.filter.specs.declared.fault.ConvertFault.TheVariants.{Input as InInput, Memory as NoMemory};
 ghost use Rattle.std.specs.Prelude.{◌≡◌};
 
 use rows::fault::LoadFault;
 use std::alloc::AllocError;
 use tables::fault::BadLine;
 
-// Why no book is made of a table.
-#[derive(Clone, Copy)]
-pub enum MakeFault {
-    // A line of the table is at fault.
-    Table(BadLine),
+// Why a file is not converted, whatever faults its kind of file has.
+#[derive(Clone, Copy, PartialEq, Eq, Debug)]
+pub enum ConvertFault<F> {
+    // The file is turned down.
+    Input(F),
     // There is not enough memory.
     Memory,
 }
 
-// Why no table is made of a book.
-#[derive(Clone, Copy)]
-pub enum ShowFault {
-    // The book is turned down.
-    Load(LoadFault),
-    // There is not enough memory.
-    Memory,
-}
+impl From<BadLine> for ConvertFault<BadLine> {
+    ghost from_gives = { λ bad fault. fault ≡ InInput bad };
 
-impl From<BadLine> for MakeFault {
-    ghost from_gives = { λ bad fault. fault ≡ InTable bad };
-
-    fn from(value: BadLine) -> MakeFault {
-        MakeFault::Table(value)
+    fn from(bad: BadLine) -> ConvertFault<BadLine> {
+        ConvertFault::Input(bad)
     }
 }
 
-impl From<AllocError> for MakeFault {
-    ghost from_gives = { λ _ fault. fault ≡ MakeMemory };
+impl From<LoadFault> for ConvertFault<LoadFault> {
+    ghost from_gives = { λ load fault. fault ≡ InInput load };
 
-    fn from(_value: AllocError) -> MakeFault {
-        MakeFault::Memory
+    fn from(load: LoadFault) -> ConvertFault<LoadFault> {
+        ConvertFault::Input(load)
     }
 }
 
-impl From<LoadFault> for ShowFault {
-    ghost from_gives = { λ load fault. fault ≡ InLoad load };
+impl<F> From<AllocError> for ConvertFault<F> {
+    ghost from_gives = { λ _ fault. fault ≡ NoMemory };
 
-    fn from(value: LoadFault) -> ShowFault {
-        ShowFault::Load(value)
-    }
-}
-
-impl From<AllocError> for ShowFault {
-    ghost from_gives = { λ _ fault. fault ≡ ShowMemory };
-
-    fn from(_value: AllocError) -> ShowFault {
-        ShowFault::Memory
+    fn from(_value: AllocError) -> ConvertFault<F> {
+        ConvertFault::Memory
     }
 }

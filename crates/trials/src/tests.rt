@@ -1,5 +1,5 @@
 use filter::convert::{make_book, show_book};
-use filter::fault::ShowFault;
+use filter::fault::ConvertFault;
 use lines::fault::{BadWord, Reason};
 use std::alloc::{AllocError, Global};
 use std::test::Fail;
@@ -8,10 +8,7 @@ use tables::read::read_table;
 
 // The first fault of a table, if it has one.
 fn fault_of(text: &str) -> Option<BadLine> {
-    match read_table(text.as_bytes()) {
-        Ok(_) => None,
-        Err(bad) => Some(bad),
-    }
+    read_table(text.as_bytes()).err()
 }
 
 // What is told of a faulty row: its line and the number.
@@ -130,7 +127,7 @@ CENT          1       9      24      24           0              0
 #[test]
 fn faulty_book(rt: HostRuntime) -> Result<(), Fail> {
     match show_book(rt.alloc(), b"TAGS") {
-        Err(ShowFault::Load(fault)) => {
+        Err(ConvertFault::Input(fault)) => {
             assert_eq!(rt; fault.number(), 31);
             Ok(())
         },
