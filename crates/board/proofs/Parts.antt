@@ -5,7 +5,7 @@ use Rattle.rows.specs.declared.row.Row.{Row}
 use Rattle.rating.specs.Ranked.{ranked}
 use Rattle.rating.specs.Ratings.{ranking_in}
 use Rattle.rating.specs.declared.ranking.Ranking.{Ranking}
-use Rattle.rating.specs.declared.rating.Analysis.{Analysis}
+use Rattle.rating.specs.declared.ranked.RankedDraft.{RankedDraft}
 use Rattle.rating.specs.declared.verdict.Phase.TheVariants.{Memory, Processor}
 use Rattle.rating.proofs.Rankings.{permutes, ranked-small}
 use Rattle.feeds.specs.Meanings.{Advanced, View}
@@ -74,8 +74,8 @@ pub record Parts {A B P : Type 0} (view : P → View) (s v : Run A B P) (answer 
   pub rating : u.rating ≡ v.rating
 
 module _ {A B P : Type 0} (view : P → View) (s v : Run A B P) (answer : Answer) (u : Run A B P) (parts : Parts view s v answer u) where
-  abbrev x : Analysis
-  x = s.rating.analysis
+  abbrev x : RankedDraft
+  x = s.rating.analysis.ranked
 
   placed_there : (k : ℕ) → k < length (rows_in s) → place v k ≡ placed view s k
   placed_there k l = parts.entered.done k l

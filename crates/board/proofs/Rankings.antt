@@ -10,7 +10,7 @@ use Rattle.rating.specs.Ranked.{ranked}
 use Rattle.rating.specs.Rankings.{Agrees, Permutes}
 use Rattle.rating.specs.Ratings.{bounds_at, draft_in, verdict_in}
 use Rattle.rating.specs.declared.ranking.Ranking.{Ranking}
-use Rattle.rating.specs.declared.rating.Analysis.{Analysis}
+use Rattle.rating.specs.declared.ranked.RankedDraft.{RankedDraft}
 use Rattle.rating.specs.declared.rating.Rating.{Rating}
 use Rattle.rating.proofs.Exact.{in_time}
 use Rattle.rating.proofs.Rankings.{permutes, sum-ranked}
@@ -85,8 +85,8 @@ bounds_are r RM RC e b k l =
 
 module _ {A B P : Type 0} (view : P → View) (r : Run A B P) (begun : New r) (accepted : is_accepted (verdict_in r.rating) ≡ true)
     (fits : Fitting (view r.pile) (rows_in r)) (RM RC : ℕ → ℕ) (bounds : BoundsOf r RM RC) where
-  abbrev x : Analysis
-  x = r.rating.analysis
+  abbrev x : RankedDraft
+  x = r.rating.analysis.ranked
 
   memory_agrees : Agrees (by_place (memory_ranking r)).before (rows_in r) (memory_ranking r)
   memory_agrees = agrees (rows_in r) x.memory x.memory_rows
@@ -99,7 +99,7 @@ module _ {A B P : Type 0} (view : P → View) (r : Run A B P) (begun : New r) (a
   solutions =
       in_time (rows_in r) (by_place (memory_ranking r)) (by_place (processor_ranking r)) (memory_ranking r) (processor_ranking r) memory_agrees processor_agrees
       (sum-ranked x.memory (length (rows_in r)) x.memory_rows) (sum-ranked x.processor (length (rows_in r)) x.processor_rows)
-      (subst (λ v. is_accepted v ≡ true) x.rated accepted)
+      (subst (λ v. is_accepted v ≡ true) r.rating.analysis.rated accepted)
 
   pub ranked_guarantee : (past : Past A B P) (s : Run A B P) → Reached (Stepped view (Along (memory_ranking r)) (Along (processor_ranking r))) r past s
       → Guarantee view (rows_in r) RM RC past s

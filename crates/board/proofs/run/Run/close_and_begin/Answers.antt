@@ -33,7 +33,7 @@ returns g c =
       late = subst (λ x. LateBy (rows_of c.args.draft) m.before p.before (verdict_in x)) back closed.late;
       serves =
           serves g.P.Pledge.view m p r (rows_of c.args.draft) (ap rows_of kept)
-          (subst (λ x. Agrees m.before (rows_of c.args.draft) (ranked x.analysis.memory)) back closed.memory)
-          (subst (λ x. Agrees p.before (rows_of c.args.draft) (ranked x.analysis.processor)) back closed.processor);
+          (subst (λ x. Agrees m.before (rows_of c.args.draft) (ranked x.analysis.ranked.memory)) back closed.memory)
+          (subst (λ x. Agrees p.before (rows_of c.args.draft) (ranked x.analysis.ranked.processor)) back closed.processor);
       assured = assured g.P.Pledge.view m p r (rows_of c.args.draft) (ap rows_of kept) c.begin.ensures.new.0;
     }
