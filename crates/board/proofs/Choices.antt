@@ -1,17 +1,25 @@
 -- The row that a resource serves: along a ranking, and by the relation that the ranking agrees with.
-use Rattle.std.proofs.Common.{◌≡◌, ℕ, zero, suc, ◌<◌, ◌≤◌, Bool, true, false, List, [], ◌∷◌, length, get_or, Some, None, Option, sym, ap, ◌∙◌, subst, inl, inr, arith}
+use Rattle.std.proofs.Common.{◌≡◌, ℕ, suc, ◌<◌, ◌≤◌, Bool, true, false, List, [], ◌∷◌, length, get_or, Some, None, Option, sym, ap, ◌∙◌, subst, inl, inr, arith}
 use Rattle.std.proofs.lemmas.List.{length-take-le}
 use Rattle.std.proofs.lemmas.Bool.{both_ways, cases_Bool, lt-ltb, or_left}
+use Rattle.std.specs.List.{find, position_or_len, slice_get}
+use Rattle.std.specs.Option.{IfSome}
+use Rattle.std.proofs.lemmas.List.Folds.{find_at}
+use Rattle.std.proofs.lemmas.List.Sums.{fails_before_first, passes_at_first}
+use Rattle.std.proofs.lemmas.Option.{get_or_from_slice_get, slice_get_cases, slice_get_within}
 use Rattle.rows.specs.declared.row.Row.{Row}
 use Rattle.rating.specs.Figures.{earlier, earlier-never, earlier-one, earlier-through}
 use Rattle.rating.specs.Orders.{Sequence, comes}
 use Rattle.rating.specs.Rankings.{Agrees, Permutes, front_of}
 use Rattle.rating.proofs.Fronts.{front_at, place_before}
 use Rattle.schedule.specs.Resources.{Chosen}
-use Rattle.board.specs.Runs.{Along, FirstBy, first}
+use Rattle.board.specs.Runs.{Along, FirstBy}
 
-no_row : (i : ℕ) → None ≡ Some i → ⊥
-no_row i e = let z : ◌≡◌ {A = ℕ} 0 1 = cc in omega arith
+-- what holds of each number of a list holds of the first that passes
+pub found : (P : ℕ → Type 0) (passes : ℕ → Bool) (xs : List ℕ) → ((i : ℕ) → i < length xs → P (get_or xs i 0)) → IfSome (find passes xs) P
+found P passes [] h = tt
+found P passes (x ∷ xs) h =
+    elim (cases_Bool (passes x)) [ inl y ↦ rw y (h 0 (omega arith)) | inr y ↦ rw y (found P passes xs (λ i l. h (suc i) (omega arith))) ]
 
 -- where the first number that passes stands
 record FirstAt (passes : ℕ → Bool) (xs : List ℕ) (i : ℕ) : Type 0 where
@@ -21,29 +29,29 @@ record FirstAt (passes : ℕ → Bool) (xs : List ℕ) (i : ℕ) : Type 0 where
   passed : passes i ≡ true
   before : (q : ℕ) → q < at → passes (get_or xs q 0) ≡ false
 
-first-at : (passes : ℕ → Bool) (xs : List ℕ) (i : ℕ) → first passes xs ≡ Some i → FirstAt passes xs i
-first-at passes [] i e = absurd (no_row i e)
-first-at passes (x ∷ xs) i e =
-    elim (cases_Bool (passes x)) [
-      | inl y ↦
-          let q : Some x ≡ Some i = rw y at e in
-          let same : x ≡ i = cc in
-          record { at = 0; within = omega arith; here = same; passed = subst (λ j. passes j ≡ true) same y; before = λ q l. absurd (omega arith) }
-      | inr y ↦
-          let f = first-at passes xs i (rw y at e) in
-          record { at = suc f.at; within = omega (arith, f.within); here = f.here; passed = f.passed; before = earlier_fail f y }
+first-at : (passes : ℕ → Bool) (xs : List ℕ) (i : ℕ) → find passes xs ≡ Some i → FirstAt passes xs i
+first-at passes xs i e =
+    let at : ℕ = position_or_len passes xs in
+    let there : slice_get xs at ≡ Some i = sym (find_at passes xs) ∙ e in
+    let within = slice_get_within xs at i there in
+    let here = get_or_from_slice_get xs at i 0 there in
+    record {
+      at = at;
+      within = within;
+      here = here;
+      passed = subst (λ j. passes j ≡ true) here (passes_at_first passes xs 0 within);
+      before = λ q l. fails_before_first passes xs q 0 l;
+    }
+
+none_passes : (passes : ℕ → Bool) (xs : List ℕ) → find passes xs ≡ None → (q : ℕ) → q < length xs → passes (get_or xs q 0) ≡ false
+none_passes passes xs e q l =
+    elim (slice_get_cases xs (position_or_len passes xs)).1 [
+      | inl x ↦ absurd (some_none (sym x.2 ∙ sym (find_at passes xs) ∙ e))
+      | inr x ↦ fails_before_first passes xs q 0 (omega (arith, x.0))
     ]
   where
-    earlier_fail : (f : FirstAt passes xs i) → passes x ≡ false → (q : ℕ) → q < suc f.at → passes (get_or (x ∷ xs) q 0) ≡ false
-    earlier_fail f y zero l = y
-    earlier_fail f y (suc q) l = f.before q (omega arith)
-
-none_passes : (passes : ℕ → Bool) (xs : List ℕ) → first passes xs ≡ None → (q : ℕ) → q < length xs → passes (get_or xs q 0) ≡ false
-none_passes passes [] e q l = absurd (omega arith)
-none_passes passes (x ∷ xs) e zero l =
-    elim (cases_Bool (passes x)) [ inl y ↦ absurd (no_row x (sym (rw y at e))) | inr y ↦ y ]
-none_passes passes (x ∷ xs) e (suc q) l =
-    elim (cases_Bool (passes x)) [ inl y ↦ absurd (no_row x (sym (rw y at e))) | inr y ↦ none_passes passes xs (rw y at e) q (omega arith) ]
+    some_none : {x : ℕ} → Some x ≡ None → ⊥
+    some_none e = cc
 
 -- the choice along a ranking that agrees with an order is the order's own
 module _ (s : Sequence) (rows : List Row) (rs : List ℕ) (a : Agrees s.before rows rs) (waits : ℕ → Bool) where

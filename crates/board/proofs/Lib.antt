@@ -2,7 +2,6 @@ pub mod BookA
 pub mod Chains
 pub mod Choices
 pub mod Entering
-pub mod Firsts
 pub mod Going
 pub mod Guarantees
 pub mod Parts

@@ -1,22 +1,25 @@
 -- The rules of a step, put together.
-use Rattle.std.proofs.Common.{◌≡◌, ℕ, suc, ◌+◌, ◌-◌, ◌<◌, Bool, true, false, cond, List, [], ◌∷◌, length, get_or, Some, None, Option, sym, refl, ap, ◌∙◌, subst, inl, inr, arith}
+use Rattle.std.proofs.Common.{◌≡◌, ℕ, suc, ◌+◌, ◌-◌, ◌<◌, Bool, true, false, cond, List, [], ◌∷◌, length, get_or, Some, None, Option, refl, ap, ◌∙◌, subst, inl, inr, arith}
 use Rattle.std.proofs.lemmas.Bool.{both_ways, cases_lt, eqb-true}
+use Rattle.std.specs.List.{find}
+use Rattle.std.specs.Option.{IfSome}
 use Rattle.rows.specs.declared.row.Row.{Row}
 use Rattle.rating.specs.Ranked.{ranked}
 use Rattle.rating.specs.Ratings.{ranking_in}
 use Rattle.rating.specs.declared.ranking.Ranking.{Ranking}
 use Rattle.rating.specs.declared.ranked.RankedDraft.{RankedDraft}
+use Rattle.rating.specs.declared.verdict.Phase.{Phase}
 use Rattle.rating.specs.declared.verdict.Phase.TheVariants.{Memory, Processor}
 use Rattle.rating.proofs.Rankings.{permutes, ranked-small}
 use Rattle.feeds.specs.Meanings.{Advanced, View}
 use Rattle.schedule.specs.Places.{is_computing, is_loading, moved, names}
 use Rattle.schedule.specs.declared.place.Slot.{Slot}
 use Rattle.schedule.specs.declared.place.Slot.TheVariants.{Empty, Loading, Computing}
-use Rattle.board.specs.Rules.{Entered, ends, served_on}
-use Rattle.board.specs.Runs.{Along, FirstBy, Stepped, finished, first, memory_ranking, place, placed, processor_ranking, rows_in, taking}
+use Rattle.board.specs.Rules.{Entered, ends, served_on, waits_for}
+use Rattle.board.specs.Runs.{Along, FirstBy, Stepped, finished, memory_ranking, place, placed, processor_ranking, rows_in, taking}
 use Rattle.board.specs.declared.run.Answer.{Answer}
 use Rattle.board.specs.declared.run.Run.{Run}
-use Rattle.board.proofs.Choices.{along_chosen, by_place}
+use Rattle.board.proofs.Choices.{along_chosen, by_place, found}
 use Rattle.board.proofs.Rankings.{agrees}
 
 never : false ≡ true → ⊥
@@ -39,7 +42,7 @@ served-both false true (Computing left since) h g = refl
 served-both false false (Computing left since) h g = refl
 
 -- the choice along a list asks only of the numbers that stand in it
-first-same : (p q : ℕ → Bool) (xs : List ℕ) → ((i : ℕ) → i < length xs → p (get_or xs i 0) ≡ q (get_or xs i 0)) → first p xs ≡ first q xs
+first-same : (p q : ℕ → Bool) (xs : List ℕ) → ((i : ℕ) → i < length xs → p (get_or xs i 0) ≡ q (get_or xs i 0)) → find p xs ≡ find q xs
 first-same p q [] h = refl
 first-same p q (x ∷ xs) h = rw (h 0 (omega arith), first-same p q xs (λ i l. h (suc i) (omega arith)))
 
@@ -48,7 +51,7 @@ module _ (rows : List Row) (x : Ranking) (e : x.count ≡ length rows) where
   below : (i : ℕ) → i < length (ranked x) → get_or (ranked x) i 0 < length rows
   below i l = let z = permutes x in omega (arith, e, z.long, z.number i (omega (arith, z.long)))
 
-  first_rows : (p q : ℕ → Bool) → ((k : ℕ) → k < length rows → p k ≡ q k) → first p (ranked x) ≡ first q (ranked x)
+  first_rows : (p q : ℕ → Bool) → ((k : ℕ) → k < length rows → p k ≡ q k) → find p (ranked x) ≡ find q (ranked x)
   first_rows p q same = first-same p q (ranked x) (λ i l. same (get_or (ranked x) i 0) (below i l))
 
   -- who is served is a row that waits
@@ -63,8 +66,8 @@ module _ (rows : List Row) (x : Ranking) (e : x.count ≡ length rows) where
 pub record Parts {A B P : Type 0} (view : P → View) (s v : Run A B P) (answer : Answer) (u : Run A B P) : Type 0 where
   pub entered : Entered view (length (rows_in s)) s v
   pub step : answer.step ≡ v.number
-  pub memory : answer.memory ≡ first (λ k. is_loading (place v k)) (memory_ranking v)
-  pub processor : answer.processor ≡ first (λ k. is_computing (place v k)) (processor_ranking v)
+  pub memory : answer.memory ≡ find (λ k. is_loading (place v k)) (memory_ranking v)
+  pub processor : answer.processor ≡ find (λ k. is_computing (place v k)) (processor_ranking v)
   pub finishes : answer.finished ≡ ends v.number v.places answer.processor
   pub middle : ℕ → Slot
   pub loads : (k : ℕ) → middle k ≡ cond (names answer.memory k) (served_on Memory (place v k)) (place v k)
@@ -82,12 +85,12 @@ module _ {A B P : Type 0} (view : P → View) (s v : Run A B P) (answer : Answer
 
   on_memory : Along (memory_ranking s) (λ k. is_loading (placed view s k)) answer.memory
   on_memory =
-      parts.memory ∙ ap (λ r. first (λ k. is_loading (place v k)) (ranked (ranking_in r Memory))) parts.entered.same.rating
+      parts.memory ∙ ap (λ r. find (λ k. is_loading (place v k)) (ranked (ranking_in r Memory))) parts.entered.same.rating
       ∙ first_rows (rows_in s) x.memory x.memory_rows (λ k. is_loading (place v k)) (λ k. is_loading (placed view s k)) (λ k l. ap is_loading (placed_there k l))
 
   on_processor : Along (processor_ranking s) (λ k. is_computing (placed view s k)) answer.processor
   on_processor =
-      parts.processor ∙ ap (λ r. first (λ k. is_computing (place v k)) (ranked (ranking_in r Processor))) parts.entered.same.rating
+      parts.processor ∙ ap (λ r. find (λ k. is_computing (place v k)) (ranked (ranking_in r Processor))) parts.entered.same.rating
       ∙ first_rows (rows_in s) x.processor x.processor_rows (λ k. is_computing (place v k)) (λ k. is_computing (placed view s k)) (λ k l. ap is_computing (placed_there k l))
 
   ended : (o : Option ℕ) → Along (processor_ranking s) (λ k. is_computing (placed view s k)) o → ends v.number v.places o ≡ finished view s o
@@ -126,6 +129,7 @@ module _ {A B P : Type 0} (view : P → View) (s v : Run A B P) (answer : Answer
     others = λ k h. parts.advanced.rested k ∙ ap (λ n. n - 1) (untaken k h);
   }
 
--- an order that a ranking lends has numbers below 32 alone
-pub order_small : (r : Ranking) (order : List ℕ) → order ≡ ranked r → (p : ℕ) → p < length order → get_or order p 0 < 32
-order_small r order e = subst (λ xs. (p : ℕ) → p < length xs → get_or xs p 0 < 32) (sym e) (ranked-small r)
+-- the row that a resource serves is below 32
+pub small : {A B P : Type 0} (s : Run A B P) (phase : Phase) (o : Option ℕ) → o ≡ find (λ k. waits_for phase (place s k)) (ranked (ranking_in s.rating phase))
+    → IfSome o (λ k. k < 32)
+small s phase o e = rw e (found (λ k. k < 32) _ _ (ranked-small (ranking_in s.rating phase)))

@@ -50,11 +50,6 @@ served_on Processor s = moved false true s
 abbrev pub slot_at : List Slot → ℕ → Slot
 slot_at places k = slice_index_or places k Empty
 
--- a row, if there is one, is below n
-abbrev pub RowBelow : ℕ → Option ℕ → Type 0
-RowBelow n None = Unit {0}
-RowBelow n (Some k) = k < n
-
 -- which row finishes in step t, if the processor serves a row
 abbrev pub ends : ℕ → List Slot → Option ℕ → Option (ℕ × ℕ)
 ends t places None = None

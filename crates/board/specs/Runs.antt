@@ -1,4 +1,5 @@
-use Rattle.std.specs.Prelude.{◌≡◌, ℕ, zero, suc, ◌+◌, ◌-◌, ◌<◌, Bool, true, false, cond, List, [], ◌∷◌, length, Some, None, Option, ◌==◌, slice_index_or}
+use Rattle.std.specs.Prelude.{◌≡◌, ℕ, zero, suc, ◌+◌, ◌-◌, ◌<◌, Bool, true, false, cond, List, length, Some, None, Option, ◌==◌, slice_index_or}
+use Rattle.std.specs.List.{find}
 use Rattle.rows.specs.Drafts.{rows_of}
 use Rattle.rows.specs.declared.row.Row.{Row}
 use Rattle.rating.specs.Orders.{Before, comes}
@@ -19,14 +20,9 @@ use Rattle.board.specs.declared.run.Run.{Run}
 abbrev pub Choice : Type 1
 Choice = (ℕ → Bool) → Option ℕ → Type 0
 
--- the first number of a list that passes
-abbrev pub first : (ℕ → Bool) → List ℕ → Option ℕ
-first passes [] = None
-first passes (k ∷ ks) = cond (passes k) (Some k) (first passes ks)
-
--- along a ranking
+-- along a ranking: the first number that passes
 abbrev pub Along : List ℕ → Choice
-Along rs waits o = o ≡ first waits rs
+Along rs waits o = o ≡ find waits rs
 
 -- by an order's own relation: no waiting row comes before the one that is served
 abbrev pub FirstBy : Before → List Row → Choice

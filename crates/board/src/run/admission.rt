@@ -12,18 +12,13 @@ use feeds::pledge::Pledge;
 fn admitted(offer: (u32, u32), step: u32) -> Slot
     ensures { result ≡ job offer step }
 {
-    let (m, c) = offer;
-    if m == 0 {
-        Slot::Computing {
-            left: c,
+    match offer {
+        (0, left) => Slot::Computing { left, since: step },
+        (left, compute) => Slot::Loading {
+            left,
+            compute,
             since: step,
-        }
-    } else {
-        Slot::Loading {
-            left: m,
-            compute: c,
-            since: step,
-        }
+        },
     }
 }
 
@@ -46,10 +41,10 @@ impl<A, B, P: Feed> Run<A, B, P> {
         let Ok(mark) = Mark::new(k) else {
             return;
         };
-        if let Slot::Empty = self.places[k as usize] {
-            if let Some(offer) = self.pile.take(mark) {
-                self.places[k as usize] = admitted(offer, self.number);
-            }
+        if let Slot::Empty = self.places[k as usize]
+            && let Some(offer) = self.pile.take(mark)
+        {
+            self.places[k as usize] = admitted(offer, self.number);
         }
     }
 }

@@ -16,12 +16,8 @@ impl<A, B, P> Run<A, B, P> {
     pub fn place(&self, k: u8) -> Option<Slot>
         ensures { result ≡ place_at self.now k }
     {
-        let i = k as usize;
-        if i < self.rating.rows().len() {
-            Some(self.places[i])
-        } else {
-            None
-        }
+        let rows = self.rating.rows().len();
+        self.places[..rows].get(k as usize).copied()
     }
 
     // The rating that the run was begun with.

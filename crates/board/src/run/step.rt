@@ -1,6 +1,6 @@
 ghost use Rattle.board.specs.Calls.{Went};
 
-use super::service::{finishing, first_waiting, serve_row};
+use super::service::serve_row;
 use super::{Answer, Run};
 use crate::fault::StepFault;
 use feeds::feed::Feed;
@@ -21,17 +21,9 @@ impl<A, B, P: Feed> Run<A, B, P> {
         }
         self.admit();
         let step = self.number;
-        let memory = first_waiting(
-            Phase::Memory,
-            self.rating.lent_ranking(Phase::Memory).rows(),
-            &self.places,
-        );
-        let processor = first_waiting(
-            Phase::Processor,
-            self.rating.lent_ranking(Phase::Processor).rows(),
-            &self.places,
-        );
-        let finished = finishing(processor, &self.places, step);
+        let memory = self.served(Phase::Memory);
+        let processor = self.served(Phase::Processor);
+        let finished = self.finishing(processor);
         serve_row(Phase::Memory, memory, &mut self.places);
         serve_row(Phase::Processor, processor, &mut self.places);
         self.pile.advance();

@@ -1,16 +1,14 @@
-use Rattle.std.proofs.Common.{refl, ap, ◌∙◌, arith}
-use Rattle.rating.specs.Ranked.{ranked}
-use Rattle.schedule.specs.Places.{is_computing, is_loading}
+use Rattle.std.proofs.Common.{refl, arith}
+use Rattle.rating.specs.declared.verdict.Phase.TheVariants.{Memory, Processor}
 use Rattle.board.specs.Rules.{slot_at}
-use Rattle.board.specs.Runs.{first, place}
-use Rattle.board.proofs.Parts.{order_small, went}
+use Rattle.board.proofs.Parts.{small, went}
 use Rattle.board.proofs.run.Run.step.Goals as goal
 
-pub first_waiting-memory-requires : goal.first_waiting-memory-requires
-first_waiting-memory-requires g c = order_small c.lent_ranking.result.now c.rows.result.now c.rows.ensures
+pub serve_row-requires : goal.serve_row-requires
+serve_row-requires g c = small c.admit.new.self Memory _ c.served-memory.ensures
 
-pub first_waiting-processor-requires : goal.first_waiting-processor-requires
-first_waiting-processor-requires g c = order_small c.lent_ranking-2.result.now c.rows-2.result.now c.rows-2.ensures
+pub serve_row-requires-2 : goal.serve_row-requires-2
+serve_row-requires-2 g c = small c.admit.new.self Processor _ c.served-processor.ensures
 
 pub returns : goal.returns
 returns g c = (
@@ -18,9 +16,8 @@ returns g c = (
   went g.P.Pledge.view c.args.self.now c.admit.new.self _ _ record {
     entered = c.admit.ensures;
     step = refl;
-    memory = c.first_waiting-memory.ensures.found ∙ ap (first (λ k. is_loading (place c.admit.new.self k))) (c.rows.ensures ∙ ap ranked c.lent_ranking.ensures);
-    processor =
-        c.first_waiting-processor.ensures.found ∙ ap (first (λ k. is_computing (place c.admit.new.self k))) (c.rows-2.ensures ∙ ap ranked c.lent_ranking-2.ensures);
+    memory = c.served-memory.ensures;
+    processor = c.served-processor.ensures;
     finishes = c.finishing-finished.ensures;
     middle = slot_at c.serve_row.new.places;
     loads = c.serve_row.ensures;
