@@ -86,15 +86,6 @@ module _ {A B P : Type 0} (view : P → View) where
         line = n.line ∙ ap (λ z. joined z n.answer) t.line;
       }
 
--- one more place of a table is mapped
-pub mapped_more : {X : Type 0} (f : ℕ → X → X) (xs ys : List X) (d : X) (k : ℕ) (v : X) → k < length ys → v ≡ f k (get_or ys k d)
-    → ((j : ℕ) → j < k → get_or ys j d ≡ f j (get_or xs j d)) → ((j : ℕ) → k ≤ j → get_or ys j d ≡ get_or xs j d)
-    → ((j : ℕ) → j < k + 1 → get_or (set ys k v) j d ≡ f j (get_or xs j d)) × ((j : ℕ) → k + 1 ≤ j → get_or (set ys k v) j d ≡ get_or xs j d)
-mapped_more f xs ys d k v within e below above = (
-  below_more _ _ (λ j l. let ne : j ≢ k = omega arith in rw get_or-set_other (below j l)) (rw get_or-set_same (e ∙ ap (f k) (above k (omega arith)))),
-  λ j l. let ne : j ≢ k = omega arith in rw get_or-set_other (above j (omega arith)),
-)
-
 -- stepping twice is stepping once, as many times as both together
 module _ {A B P : Type 0} (view : P → View) where
   pub both : (m n : ℕ) (s t u : Run A B P) (x w y : Journal) → Simulated view m s x t w → Simulated view n t w u y → Simulated view (m + n) s x u y

@@ -13,11 +13,6 @@ is_free Empty = true
 is_free (Loading left compute since) = false
 is_free (Computing left since) = false
 
--- a row that is there, and has no job
-abbrev pub is_free_at : Option Slot → Bool
-is_free_at None = false
-is_free_at (Some p) = is_free p
-
 abbrev pub is_taken : Slot → Bool
 is_taken Empty = false
 is_taken (Loading left compute since) = true

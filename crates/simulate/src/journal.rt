@@ -22,7 +22,7 @@ impl Journal {
         ensures line { answers_in result.timeline ≡ [] }
     {
         Journal {
-            tallies: [Tally::new(); 32],
+            tallies: [Tally::default(); 32],
             timeline: Timeline::new(),
         }
     }
@@ -50,19 +50,17 @@ fn note_rows<A, B, P>(
     ensures rows { (k : ℕ) → k < length (rows_in run.now) → tally_at tallies.new k ≡ noted k (slice_index_or free.now k false) answer.now (place run.now k) (tally_at tallies.old k) }
     ensures others { (k : ℕ) → length (rows_in run.now) ≤ k → tally_at tallies.new k ≡ tally_at tallies.old k }
 {
-    let count = run.rating().rows().len();
-    for k in 0..count {
-        tallies[k] = noted_row(tallies[k], k as u8, free[k], answer, run);
+    for (k, tally) in tallies.iter_mut().enumerate() {
+        *tally = noted_row(*tally, k as u8, free[k], answer, run);
     }
 }
 
-// The tally of one row of a run after a step.
+// The tally of a row of a run after a step, or as it was without such a row.
 fn noted_row<A, B, P>(tally: Tally, k: u8, free: bool, answer: &Answer, run: &Run<A, B, P>) -> Tally
-    requires { (k < length (rows_in run.now)) × ((AtMost 2000000000 tally) × (answer.now.step ≤ 2000000000)) }
-    ensures { result ≡ noted k free answer.now (place run.now k) tally }
+    requires { (AtMost 2000000000 tally) × (answer.now.step ≤ 2000000000) }
+    ensures row { k < length (rows_in run.now) → result ≡ noted k free answer.now (place run.now k) tally }
+    ensures other { length (rows_in run.now) ≤ k → result ≡ tally }
 {
-    match run.place(k) {
-        Some(after) => tally.noted(k, free, answer, after),
-        None => tally,
-    }
+    run.place(k)
+        .map_or(tally, |after| tally.noted(k, free, answer, after))
 }

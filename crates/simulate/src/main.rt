@@ -13,12 +13,11 @@ use crate::table::report;
 use board::run::Run;
 use feeds::feed::Feed;
 use feeds::pledge::Pledge;
+use listing::fault::ListingFault;
 use listing::listing::{list_fault, list_rating};
 use lists::list::List;
 use lists::records::check_list;
-use rating::rating::Rating;
 use rows::draft::Draft;
-use rows::fault::LoadFault;
 use std::fs::File;
 use std::io::{Read, Write};
 use std::process::ExitCode;
@@ -59,7 +58,7 @@ fn work(rt: &HostRuntime) -> Result<(), Stop> {
     let book = read_book(rt, book)?;
     let mut draft = Draft::new();
     if let Err(fault) = draft.load(&book) {
-        print_fault(rt, &fault)?;
+        print_listing(rt, |out| list_fault(&fault, out))?;
         return Err(Stop::TurnedDown);
     }
     match list {
@@ -81,10 +80,8 @@ fn read_book(rt: &HostRuntime, book: Option<String>) -> Result<Vec<u8>, Stop> {
         bytes.extend_from_slice(sample())?;
         return Ok(bytes);
     };
-    match take_in(rt, name.as_str(), &mut bytes) {
-        Ok(()) => Ok(bytes),
-        Err(error) => Err(Stop::Unreadable(name, error)),
-    }
+    take_in(rt, name.as_str(), &mut bytes).map_err(|error| Stop::Unreadable(name, error))?;
+    Ok(bytes)
 }
 
 // The first bytes of a file.
@@ -95,24 +92,23 @@ fn take_in(rt: &HostRuntime, name: &str, bytes: &mut Vec<u8>) -> io::Result<()> 
 
 // The bytes of a list. If it has a fault, that is told, and the records before the fault will be used.
 fn read_list(rt: &HostRuntime, name: String) -> Result<Vec<u8>, Stop> {
-    match fs::read(rt, name.as_str()) {
-        Ok(bytes) => {
-            if let Err(fault) = check_list(&bytes) {
-                let told = refusal(rt.alloc(), &fault)?;
-                eprintln!(rt;
-                    "simulate: {name}: {told}; the records before the first faulty one are used"
-                )?;
-            }
-            Ok(bytes)
-        }
-        Err(error) => Err(Stop::Unreadable(name, error)),
+    let bytes = match fs::read(rt, name.as_str()) {
+        Ok(bytes) => bytes,
+        Err(error) => return Err(Stop::Unreadable(name, error)),
+    };
+    if let Err(fault) = check_list(&bytes) {
+        let told = refusal(rt.alloc(), &fault)?;
+        eprintln!(rt;
+            "simulate: {name}: {told}; the records before the first faulty one are used"
+        )?;
     }
+    Ok(bytes)
 }
 
 // Runs a draft over a feed, and prints the listing and what the run showed.
 fn show<F: Feed + Drop>(rt: &HostRuntime, draft: Draft, below: F, steps: u32) -> Result<(), Stop> {
     let mut run = begin(draft, below);
-    print_rating(rt, run.rating())?;
+    print_listing(rt, |out| list_rating(run.rating(), out))?;
     let mut journal = Journal::new();
     if steps > LONG {
         simulate_long(rt, &mut run, steps, &mut journal)?;
@@ -143,18 +139,16 @@ fn simulate_long<A, B, P: Feed>(
     Ok(())
 }
 
-fn print_rating<A, B>(rt: &HostRuntime, rating: &Rating<A, B>) -> io::Result<()> {
+// Prints what a listing puts into its buffer.
+fn print_listing<F: FnOnce(&mut [u8]) -> Result<usize, ListingFault>>(
+    rt: &HostRuntime,
+    list: F,
+) -> io::Result<()>
+    requires { F.IsAlwaysCallable list }
+{
     let mut out = [0; 1292];
-    match list_rating(rating, &mut out) {
-        Ok(n) => rt.stdout().write_all(&out[0..n]),
-        Err(_) => Ok(()),
-    }
-}
-
-fn print_fault(rt: &HostRuntime, fault: &LoadFault) -> io::Result<()> {
-    let mut out = [0; 1292];
-    match list_fault(fault, &mut out) {
-        Ok(n) => rt.stdout().write_all(&out[0..n]),
+    match list(&mut out) {
+        Ok(n) => rt.stdout().write_all(out.get(0..n).unwrap_or(&[])),
         Err(_) => Ok(()),
     }
 }

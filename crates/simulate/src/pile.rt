@@ -46,8 +46,8 @@ fn cut<F: Feed>(below: F, draft: &Draft) -> CutOff<F>
 {
     let rows = draft.rows();
     let mut layer = CutOff::new(below);
-    for i in 0..rows.len() {
-        cut_row(&mut layer, i as u8, &rows[i]);
+    for (i, row) in rows.iter().enumerate() {
+        cut_row(&mut layer, i as u8, row);
     }
     layer
 }
@@ -67,8 +67,8 @@ fn space<F: Feed>(below: F, draft: &Draft) -> Gate<F>
 {
     let rows = draft.rows();
     let mut layer = Gate::new(below);
-    for i in 0..rows.len() {
-        space_row(&mut layer, i as u8, &rows[i]);
+    for (i, row) in rows.iter().enumerate() {
+        space_row(&mut layer, i as u8, row);
     }
     layer
 }

@@ -1,7 +1,7 @@
 ghost use Rattle.board.specs.Example.{book_a};
 ghost use Rattle.rows.specs.Books.{first_rows, load_of};
 ghost use Rattle.simulate.specs.Requests.{NamedAs, StepsIn};
-ghost use Rattle.std.specs.Prelude.{◌≡◌, Ok, ◌==◌, slice_index};
+ghost use Rattle.std.specs.Prelude.{◌≡◌, Ok};
 
 use crate::stop::Stop;
 use std::env;
@@ -44,10 +44,7 @@ impl Request {
             return Err(Stop::Usage);
         }
         let steps = match steps {
-            Some(text) => match steps_in(text.as_str()) {
-                Some(steps) => steps,
-                None => return Err(Stop::Steps(text)),
-            },
+            Some(text) => steps_in(text.as_str()).ok_or(Stop::Steps(text))?,
             None => USUAL,
         };
         Ok(Request {
@@ -62,33 +59,16 @@ impl Request {
 fn named(list: Option<String>) -> Option<String>
     ensures { NamedAs list result }
 {
-    let name = list?;
-    if name.as_str() == "-" {
-        None
-    } else {
-        Some(name)
-    }
+    list.filter(|name| name.as_str() != "-")
 }
 
-// The number that a text writes in decimal digits, if it is at most 2,000,000,000.
+// The number that a text writes in decimal digits, if it is at most 2,000,000,000. A plus sign before it, which `parse` would
+// pass over, is no digit.
 fn steps_in(text: &str) -> Option<u32>
     ensures { StepsIn text.now result }
 {
-    if has_plus(text.as_bytes()) {
+    if text.starts_with('+') {
         return None;
     }
-    match text.parse::<u32>() {
-        Ok(n) => { if n <= MOST { Some(n) } else { None } }
-        Err(_) => None,
-    }
-}
-
-// Whether a text begins with a plus sign, which `parse` would pass over.
-fn has_plus(text: &[u8]) -> bool
-    ensures { result ≡ (slice_index text.now 0 == 43) }
-{
-    if text.len() == 0 {
-        return false;
-    }
-    text[0] == b'+'
+    text.parse::<u32>().ok().filter(|n| *n <= MOST)
 }

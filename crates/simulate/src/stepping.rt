@@ -1,7 +1,7 @@
 ghost use Rattle.std.specs.Prelude.{◌≡◌, ℕ, ◌<◌, false, length, slice_index_or};
 ghost use Rattle.board.specs.Runs.{place, rows_in};
 ghost use Rattle.simulate.specs.Counts.{Fair, KeepsBounds, NotedOrLast, Simulated};
-ghost use Rattle.simulate.specs.Tallies.{is_free, is_free_at};
+ghost use Rattle.simulate.specs.Tallies.{is_free};
 
 use crate::journal::Journal;
 use board::fault::StepFault;
@@ -41,18 +41,8 @@ fn free_places<A, B, P>(run: &Run<A, B, P>) -> [bool; 32]
     ensures { (k : ℕ) → k < length (rows_in run.now) → slice_index_or result k false ≡ is_free (place run.now k) }
 {
     let mut free = [false; 32];
-    let count = run.rating().rows().len();
-    for k in 0..count {
-        free[k] = is_free(run.place(k as u8));
+    for (k, place) in free.iter_mut().enumerate() {
+        *place = matches!(run.place(k as u8), Some(Slot::Empty));
     }
     free
-}
-
-fn is_free(place: Option<Slot>) -> bool
-    ensures { result ≡ is_free_at place }
-{
-    match place {
-        Some(Slot::Empty) => true,
-        _ => false,
-    }
 }

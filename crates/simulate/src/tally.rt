@@ -1,12 +1,11 @@
 ghost use Rattle.std.specs.Prelude.{◌≡◌, ◌≤◌};
-ghost use Rattle.schedule.specs.Places.{names};
-ghost use Rattle.simulate.specs.Tallies.{AtMost, has_entered, is_taken, load_in, load_of, noted, one, response_of, unmarked};
+ghost use Rattle.simulate.specs.Tallies.{AtMost, has_entered, load_in, load_of, noted, response_of};
 
 use board::run::{Answer, Slot};
 
 // What the steps of a run have shown of one row: how many arrivals were admitted and jobs finished, the worst time from
 // admission to the end of loading and to the end of the job, and the steps on each resource.
-#[derive(Clone, Copy)]
+#[derive(Clone, Copy, Default)]
 pub(crate) struct Tally {
     pub(crate) admitted: u32,
     pub(crate) finished: u32,
@@ -17,19 +16,6 @@ pub(crate) struct Tally {
 }
 
 impl Tally {
-    pub(crate) fn new() -> Tally
-        ensures { result ≡ unmarked }
-    {
-        Tally {
-            admitted: 0,
-            finished: 0,
-            load: 0,
-            response: 0,
-            memory: 0,
-            processor: 0,
-        }
-    }
-
     // The tally after a step in which the place of row k, which was free before or not, became `after`.
     pub(crate) fn noted(self, k: u8, free: bool, answer: &Answer, after: Slot) -> Tally
         requires { (AtMost 2000000000 self) × (answer.now.step ≤ 2000000000) }
@@ -37,38 +23,13 @@ impl Tally {
     {
         let ended = response_of(answer, k);
         Tally {
-            admitted: self.admitted + one(has_entered(k, free, answer, after)),
-            finished: self.finished + one(ended.is_some()),
+            admitted: self.admitted + u32::from(has_entered(k, free, answer, after)),
+            finished: self.finished + u32::from(ended.is_some()),
             load: self.load.max(load_of(k, answer, after)),
             response: self.response.max(ended.unwrap_or(0)),
-            memory: self.memory + one(is_row(answer.memory, k)),
-            processor: self.processor + one(is_row(answer.processor, k)),
+            memory: self.memory + u32::from(answer.memory == Some(k)),
+            processor: self.processor + u32::from(answer.processor == Some(k)),
         }
-    }
-}
-
-fn one(b: bool) -> u32
-    ensures { result ≡ one b }
-{
-    if b { 1 } else { 0 }
-}
-
-// Whether row k holds a resource.
-fn is_row(row: Option<u8>, k: u8) -> bool
-    ensures { result ≡ names row k }
-{
-    match row {
-        Some(j) => j == k,
-        None => false,
-    }
-}
-
-fn is_taken(place: Slot) -> bool
-    ensures { result ≡ is_taken place }
-{
-    match place {
-        Slot::Empty => false,
-        _ => true,
     }
 }
 
@@ -77,7 +38,7 @@ fn response_of(answer: &Answer, k: u8) -> Option<u32>
     ensures { result ≡ response_of answer.now k }
 {
     let (j, response) = answer.finished?;
-    if j == k { Some(response) } else { None }
+    (j == k).then_some(response)
 }
 
 // Whether an arrival of row k was admitted in a step: its place was free, and now it has a job, or the job finished at once.
@@ -85,7 +46,7 @@ fn has_entered(k: u8, free: bool, answer: &Answer, after: Slot) -> bool
     ensures { result ≡ has_entered k free answer.now after }
 {
     let ended = response_of(answer, k).is_some();
-    let taken = is_taken(after);
+    let taken = !matches!(after, Slot::Empty);
     free && (ended || taken)
 }
 
@@ -105,7 +66,7 @@ fn load_of(k: u8, answer: &Answer, after: Slot) -> u32
     requires { answer.now.step ≤ 2000000000 }
     ensures { result ≡ load_of k answer.now after }
 {
-    if is_row(answer.memory, k) {
+    if answer.memory == Some(k) {
         load_in(answer.step, after)
     } else {
         0

@@ -1,7 +1,7 @@
-use Rattle.std.proofs.Common.{eqb, get_or, sym, ap, ◌∙◌}
+use Rattle.std.proofs.Common.{sym, ◌∙◌, lit<}
 use Rattle.simulate.proofs.Requests.{no_plus}
 use Rattle.simulate.proofs.request.steps_in.Goals as goal
 
-pub returns-then-has_plus : goal.returns-then-has_plus
-returns-then-has_plus c n less =
-    no_plus c.args.text.now (ap (λ bs. eqb (get_or bs 0 0) 43) (sym c.as_bytes.ensures.value) ∙ sym c.has_plus.ensures ∙ c.if-has_plus.true) n
+pub returns-then-starts_with : goal.returns-then-starts_with
+returns-then-starts_with c n less =
+    no_plus c.args.text.now (sym (c.starts_with.ensures.byte (lit< tt) (lit< tt) (λ w o m. m)) ∙ c.if-starts_with.true) n
