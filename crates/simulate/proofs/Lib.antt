@@ -1,3 +1,4 @@
+pub mod Columns
 pub mod Entries
 pub mod Promises
 pub mod Requests

@@ -1,35 +1,22 @@
 -- Texts that are put together piece by piece.
-use Rattle.std.proofs.Common.{◌≡◌, ℕ, ◌+◌, ◌-◌, ◌<◌, ◌≤◌, max, List, [], ◌∷◌, ◌++◌, map, length, get_or, take, replicate, IfSome, Some, None, Option, sym, ap, ◌∙◌, append_assoc, add-one, arith}
-use Rattle.std.proofs.lemmas.List.{append-nil, map-append, replicate_more, take_more}
-use Rattle.simulate.specs.Tables.{at_right, in_turn, up_to, widest}
+use Rattle.std.proofs.Common.{◌≡◌, ℕ, ◌+◌, ◌<◌, ◌≤◌, max, List, [], ◌∷◌, ◌++◌, map, length, get_or, take, IfSome, Some, None, Option, sym, ap, ◌∙◌, append_assoc, add-one, arith}
+use Rattle.std.proofs.lemmas.List.{append-nil, map-append, take_more}
+use Rattle.simulate.specs.Tables.{in_turn, up_to, widest}
 
 -- a text with x and then y behind it
 pub then : {b c : List ℕ} (a x y : List ℕ) → b ≡ a ++ x → c ≡ b ++ y → c ≡ a ++ (x ++ y)
 then a x y p q = q ∙ ap (λ z. z ++ y) p ∙ append_assoc a x y
 
--- one more space
-pub space_more : {b c : List ℕ} (a : List ℕ) (n : ℕ) → b ≡ a ++ replicate n 32 → c ≡ b ++ (32 ∷ []) → c ≡ a ++ replicate (n + 1) 32
-space_more a n p q = then a (replicate n 32) (32 ∷ []) p q ∙ ap (λ z. a ++ z) (replicate_more n 32)
-
--- enough of them, and the word
-pub spaces_all : {b c : List ℕ} (a : List ℕ) (n w : ℕ) (word : List ℕ) → n ≡ w - length word → b ≡ a ++ replicate n 32 → c ≡ b ++ word → c ≡ a ++ at_right w word
-spaces_all a n w word e p q = then a (replicate n 32) word p q ∙ ap (λ k. a ++ (replicate k 32 ++ word)) e
-
--- a space and a word at the right
-pub cell_put : {b c : List ℕ} (a : List ℕ) (v w : ℕ) (h k : List ℕ) → v ≡ w → h ≡ k → b ≡ a ++ (32 ∷ []) → c ≡ b ++ at_right v h → c ≡ a ++ (32 ∷ at_right w k)
-cell_put a v w h k e f p q = then a (32 ∷ []) (at_right v h) p q ∙ ap (λ n. a ++ (32 ∷ at_right n h)) e ∙ ap (λ t. a ++ (32 ∷ at_right w t)) f
-
 -- three pieces, and so on
 pub then3 : {b c d : List ℕ} (a x y z : List ℕ) → b ≡ a ++ x → c ≡ b ++ y → d ≡ c ++ z → d ≡ a ++ (x ++ (y ++ z))
 then3 {b} a x y z p q r = then a x (y ++ z) p (then b y z q r)
 
-pub then5 : {b c d e f : List ℕ} (a v w x y z : List ℕ) → b ≡ a ++ v → c ≡ b ++ w → d ≡ c ++ x → e ≡ d ++ y → f ≡ e ++ z
-    → f ≡ a ++ (v ++ (w ++ (x ++ (y ++ z))))
-then5 {b} {c} a v w x y z p q r s t = then3 a v w (x ++ (y ++ z)) p q (then3 c x y z r s t)
+pub then4 : {b c d e : List ℕ} (a w x y z : List ℕ) → b ≡ a ++ w → c ≡ b ++ x → d ≡ c ++ y → e ≡ d ++ z → e ≡ a ++ (w ++ (x ++ (y ++ z)))
+then4 {b} a w x y z p q r s = then a w (x ++ (y ++ z)) p (then3 b x y z q r s)
 
 pub then6 : {b c d e f g : List ℕ} (a u v w x y z : List ℕ) → b ≡ a ++ u → c ≡ b ++ v → d ≡ c ++ w → e ≡ d ++ x → f ≡ e ++ y → g ≡ f ++ z
     → g ≡ a ++ (u ++ (v ++ (w ++ (x ++ (y ++ z)))))
-then6 {b} a u v w x y z p q r s t h = then a u (v ++ (w ++ (x ++ (y ++ z)))) p (then5 b v w x y z q r s t h)
+then6 {b} {c} a u v w x y z p q r s t h = then3 a u v (w ++ (x ++ (y ++ z))) p q (then4 c w x y z r s t h)
 
 -- the texts of one more element
 pub in_turn-push : {X : Type 0} (text : X → List ℕ) (xs : List X) (x : X) → in_turn text (xs ++ (x ∷ [])) ≡ in_turn text xs ++ text x

@@ -1,5 +1,5 @@
 ghost use Rattle.std.specs.Prelude.{◌≡◌, ◌+◌, ◌≤◌, IfSome};
-ghost use Rattle.simulate.specs.Tables.{figure_of, head_of, memory_part, whole_part};
+ghost use Rattle.simulate.specs.Tables.{figure_of, head_of};
 
 use crate::tally::Tally;
 
@@ -42,28 +42,11 @@ impl Column {
             Column::Admitted => Some(tally.admitted),
             Column::Finished => Some(tally.finished),
             Column::Load => Some(tally.load),
-            Column::MemoryBound => memory_part(bounds),
+            Column::MemoryBound => bounds.map(|(memory, _)| memory),
             Column::Response => Some(tally.response),
-            Column::WholeBound => whole_part(bounds),
+            Column::WholeBound => bounds.map(|(memory, processor)| memory + processor),
             Column::Memory => Some(tally.memory),
             Column::Processor => Some(tally.processor),
         }
     }
-}
-
-// The bound at the memory.
-fn memory_part(bounds: Option<(u32, u32)>) -> Option<u32>
-    ensures { result ≡ memory_part bounds }
-{
-    let (memory, _) = bounds?;
-    Some(memory)
-}
-
-// The bound on a whole job.
-fn whole_part(bounds: Option<(u32, u32)>) -> Option<u32>
-    requires { IfSome bounds (λ b. b.0 + b.1 ≤ 1000000) }
-    ensures { result ≡ whole_part bounds }
-{
-    let (memory, processor) = bounds?;
-    Some(memory + processor)
 }

@@ -9,7 +9,7 @@ use crate::pile::clockwork;
 use crate::request::{Request, sample};
 use crate::stepping::simulate;
 use crate::stop::{Stop, refusal};
-use crate::table::report;
+use crate::table::Report;
 use board::run::Run;
 use feeds::feed::Feed;
 use feeds::pledge::Pledge;
@@ -115,7 +115,11 @@ fn show<F: Feed + Drop>(rt: &HostRuntime, draft: Draft, below: F, steps: u32) ->
     } else {
         simulate(&mut run, steps, &mut journal);
     }
-    let text = report(rt.alloc(), run.rating(), &journal)?;
+    let report = Report {
+        rating: run.rating(),
+        journal: &journal,
+    };
+    let text = report.text(rt.alloc())?;
     rt.stdout().write_all(text.as_bytes())?;
     Ok(())
 }

@@ -1,11 +1,11 @@
-ghost use Rattle.std.specs.Prelude.{◌≡◌, ◌<◌, ◌++◌, map, length, IfOk, string_bytes, OnOk};
+ghost use Rattle.std.specs.Prelude.{◌≡◌, ◌<◌, ◌∷◌, ◌++◌, map, length, IfOk, string_bytes, OnOk};
 ghost use Rattle.rating.specs.Ratings.{draft_in};
 ghost use Rattle.rows.specs.Drafts.{rows_of};
-ghost use Rattle.simulate.specs.Tables.{cell_in, columns, figure_at, head_in, header_text, holder_of, in_turn, letter_of, line_of, name_of, note_of, report_text, row_text, up_to, width_in};
+ghost use Rattle.simulate.specs.Tables.{at_right, cell_in, columns, figure_at, head_in, head_of, header_text, holder_of, in_turn, letter_of, line_of, name_of, note_of, report_text, row_text, up_to, width_in};
 
 use crate::column::Column;
 use crate::journal::Journal;
-use crate::text::{put_byte, put_label, put_right, put_text, put_two_digits, word, word_width};
+use crate::text::{put_figure, put_label, put_number, word_width};
 use board::run::Answer;
 use rating::rating::Rating;
 use rating::verdict::{Phase, Verdict};
@@ -22,154 +22,110 @@ const COLUMNS: [Column; 8] = [
     Column::Processor,
 ];
 
-// What a journal has in a column of a row.
-fn figure<A, B>(rating: &Rating<A, B>, journal: &Journal, k: u8, column: Column) -> Option<u32>
-    requires { k < length (rows_of (draft_in rating.now)) }
-    ensures { result ≡ figure_at rating.now journal.now column k }
-{
-    let bounds = rating.bounds(k);
-    column.figure(&journal.tallies[k as usize], bounds)
+// What is shown of a run behind its listing: its rating, and the journal of its steps.
+#[derive(Drop)]
+pub(crate) struct Report<'a, A, B> {
+    pub(crate) rating: &'a Rating<A, B>,
+    pub(crate) journal: &'a Journal,
 }
 
-// How wide a column is: as its longest word.
-fn width<A, B>(rating: &Rating<A, B>, journal: &Journal, column: Column) -> usize
-    ensures { result ≡ width_in rating.now journal.now column }
-{
-    let mut widest = column.head().len();
-    for k in 0..rating.rows().len() {
-        widest = widest.max(word_width(figure(rating, journal, k as u8, column)));
+impl<A, B> Report<'_, A, B> {
+    // What the journal has in a column of a row.
+    fn figure(&self, k: u8, column: Column) -> Option<u32>
+        ensures { result ≡ figure_at self.now.rating.now self.now.journal.now column k }
+    {
+        let tally = self.journal.tallies.get(k as usize);
+        column.figure(&tally.copied().unwrap_or_default(), self.rating.bounds(k))
     }
-    widest
-}
 
-// Puts a column of a row, with a space before it.
-fn put_cell<A, B>(
-    text: &mut String,
-    heap: Global,
-    rating: &Rating<A, B>,
-    journal: &Journal,
-    k: u8,
-    column: Column,
-) -> Result<(), AllocError>
-    requires { k < length (rows_of (draft_in rating.now)) }
-    ensures { OnOk result (string_bytes text.new ≡ string_bytes text.old ++ cell_in rating.now journal.now k column) }
-{
-    let word = word(heap, figure(rating, journal, k, column))?;
-    put_byte(text, b' ')?;
-    put_right(text, word.as_str(), width(rating, journal, column))?;
-    Ok(())
-}
-
-// Puts the word above a column, with a space before it.
-fn put_head<A, B>(
-    text: &mut String,
-    rating: &Rating<A, B>,
-    journal: &Journal,
-    column: Column,
-) -> Result<(), AllocError>
-    ensures { OnOk result (string_bytes text.new ≡ string_bytes text.old ++ head_in rating.now journal.now column) }
-{
-    put_byte(text, b' ')?;
-    put_right(text, column.head(), width(rating, journal, column))?;
-    Ok(())
-}
-
-// Puts the line above the rows.
-fn put_header<A, B>(
-    text: &mut String,
-    rating: &Rating<A, B>,
-    journal: &Journal,
-) -> Result<(), AllocError>
-    ensures { OnOk result (string_bytes text.new ≡ string_bytes text.old ++ header_text rating.now journal.now) }
-{
-    put_text(text, "no label")?;
-    put_heads(text, rating, journal)?;
-    put_byte(text, b'\n')?;
-    Ok(())
-}
-
-fn put_heads<A, B>(
-    text: &mut String,
-    rating: &Rating<A, B>,
-    journal: &Journal,
-) -> Result<(), AllocError>
-    ensures { OnOk result (string_bytes text.new ≡ string_bytes text.old ++ in_turn (head_in rating.now journal.now) columns) }
-{
-    for column in &COLUMNS {
-        put_head(text, rating, journal, *column)?;
+    // How wide a column is: as its longest word.
+    fn width(&self, column: Column) -> usize
+        ensures { result ≡ width_in self.now.rating.now self.now.journal.now column }
+    {
+        let mut widest = column.head().len();
+        for k in 0..self.rating.rows().len() {
+            widest = widest.max(word_width(self.figure(k as u8, column)));
+        }
+        widest
     }
-    Ok(())
-}
 
-// Puts the line of a row: number, label and columns.
-fn put_row<A, B>(
-    text: &mut String,
-    heap: Global,
-    rating: &Rating<A, B>,
-    journal: &Journal,
-    k: u8,
-) -> Result<(), AllocError>
-    requires { k < length (rows_of (draft_in rating.now)) }
-    ensures { OnOk result (string_bytes text.new ≡ string_bytes text.old ++ row_text rating.now journal.now k) }
-{
-    let row = rating.rows()[k as usize];
-    put_two_digits(text, k)?;
-    put_text(text, "  ")?;
-    put_label(text, row.label)?;
-    put_cells(text, heap, rating, journal, k)?;
-    put_byte(text, b'\n')?;
-    Ok(())
-}
-
-fn put_cells<A, B>(
-    text: &mut String,
-    heap: Global,
-    rating: &Rating<A, B>,
-    journal: &Journal,
-    k: u8,
-) -> Result<(), AllocError>
-    requires { k < length (rows_of (draft_in rating.now)) }
-    ensures { OnOk result (string_bytes text.new ≡ string_bytes text.old ++ in_turn (cell_in rating.now journal.now k) columns) }
-{
-    for column in &COLUMNS {
-        put_cell(text, heap, rating, journal, k, *column)?;
+    // Puts the line above the rows.
+    fn put_header(&self, text: &mut String) -> Result<(), AllocError>
+        ensures { OnOk result (string_bytes text.new ≡ string_bytes text.old ++ header_text self.now.rating.now self.now.journal.now) }
+    {
+        text.push_str("no label")?;
+        self.put_heads(text)?;
+        text.push('\n')?;
+        Ok(())
     }
-    Ok(())
+
+    // Puts the words above the columns.
+    fn put_heads(&self, text: &mut String) -> Result<(), AllocError>
+        ensures { OnOk result (string_bytes text.new ≡ string_bytes text.old ++ in_turn (head_in self.now.rating.now self.now.journal.now) columns) }
+    {
+        for column in &COLUMNS {
+            put_head(text, *column, self.width(*column))?;
+        }
+        Ok(())
+    }
+
+    // Puts the figures of a row.
+    fn put_cells(&self, text: &mut String, k: u8) -> Result<(), AllocError>
+        ensures { OnOk result (string_bytes text.new ≡ string_bytes text.old ++ in_turn (cell_in self.now.rating.now self.now.journal.now k) columns) }
+    {
+        for column in &COLUMNS {
+            put_figure(text, self.figure(k, *column), self.width(*column))?;
+        }
+        Ok(())
+    }
+
+    // Puts the line of every row: number, label and columns.
+    fn put_rows(&self, text: &mut String) -> Result<(), AllocError>
+        ensures { OnOk result (string_bytes text.new ≡ string_bytes text.old ++ up_to (row_text self.now.rating.now self.now.journal.now) (length (rows_of (draft_in self.now.rating.now)))) }
+    {
+        let rows = self.rating.rows();
+        for (k, row) in rows.iter().enumerate() {
+            put_number(text, k as u8)?;
+            put_label(text, row.label)?;
+            self.put_cells(text, k as u8)?;
+            text.push('\n')?;
+        }
+        Ok(())
+    }
+
+    // All that is printed behind the listing: the table, the two time lines and, for a late rating, a note.
+    pub(crate) fn text(&self, heap: Global) -> Result<String, AllocError>
+        ensures { IfOk result (λ t. string_bytes t ≡ report_text self.now.rating.now self.now.journal.now) }
+    {
+        let answers = self.journal.timeline.answers();
+        let mut text = String::from_str(heap, "\n")?;
+        self.put_header(&mut text)?;
+        self.put_rows(&mut text)?;
+        text.push('\n')?;
+        put_line(&mut text, Phase::Memory, answers)?;
+        put_line(&mut text, Phase::Processor, answers)?;
+        text.push_str(note(self.rating.verdict()))?;
+        Ok(text)
+    }
 }
 
-// Puts the line of every row.
-fn put_rows<A, B>(
-    text: &mut String,
-    heap: Global,
-    rating: &Rating<A, B>,
-    journal: &Journal,
-) -> Result<(), AllocError>
-    ensures { OnOk result (string_bytes text.new ≡ string_bytes text.old ++ up_to (row_text rating.now journal.now) (length (rows_of (draft_in rating.now)))) }
+// Puts the word above a column at the right of a field, with a space before it.
+fn put_head(text: &mut String, column: Column, width: usize) -> Result<(), AllocError>
+    ensures { OnOk result (string_bytes text.new ≡ string_bytes text.old ++ (32 ∷ at_right width (head_of column))) }
 {
-    let count = rating.rows().len();
-    for k in 0..count {
-        put_row(text, heap, rating, journal, k as u8)?;
-    }
-    Ok(())
+    let head = column.head();
+    write!(text, " {head:>width$}")
 }
 
 // The character of the row that holds a resource: 0 to 9, then a to v, or a point for none.
-fn letter(row: Option<u8>) -> u8
+fn letter(row: Option<u8>) -> char
     ensures value { result ≡ letter_of row }
     ensures ascii { result < 128 }
 {
-    match row {
-        None => b'.',
-        Some(k) => {
-            if k < 10 {
-                b'0' + k
-            } else if k < 32 {
-                b'a' + (k - 10)
-            } else {
-                b'?'
-            }
-        }
-    }
+    let Some(k) = row else {
+        return '.';
+    };
+    char::from_digit(k as u32, 32).unwrap_or('?')
 }
 
 // The row that holds a resource in a step.
@@ -197,7 +153,7 @@ fn put_letters(text: &mut String, phase: Phase, answers: &[Answer]) -> Result<()
     ensures { OnOk result (string_bytes text.new ≡ string_bytes text.old ++ map (λ a. letter_of (holder_of phase a)) answers.now) }
 {
     for answer in answers {
-        put_byte(text, letter(holder(phase, answer)))?;
+        text.push(letter(holder(phase, answer)))?;
     }
     Ok(())
 }
@@ -206,9 +162,9 @@ fn put_letters(text: &mut String, phase: Phase, answers: &[Answer]) -> Result<()
 fn put_line(text: &mut String, phase: Phase, answers: &[Answer]) -> Result<(), AllocError>
     ensures { OnOk result (string_bytes text.new ≡ string_bytes text.old ++ line_of phase answers.now) }
 {
-    put_text(text, name(phase))?;
+    text.push_str(name(phase))?;
     put_letters(text, phase, answers)?;
-    put_byte(text, b'\n')?;
+    text.push('\n')?;
     Ok(())
 }
 
@@ -220,22 +176,4 @@ fn note(verdict: Verdict) -> &'static str
         Verdict::Accepted => "",
         Verdict::Late(_, _) => "\nnothing is promised for a late rating\n",
     }
-}
-
-// All that is printed behind the listing: the table, the two time lines and, for a late rating, a note.
-pub(crate) fn report<A, B>(
-    heap: Global,
-    rating: &Rating<A, B>,
-    journal: &Journal,
-) -> Result<String, AllocError>
-    ensures { IfOk result (λ t. string_bytes t ≡ report_text rating.now journal.now) }
-{
-    let mut text = String::from_str(heap, "\n")?;
-    put_header(&mut text, rating, journal)?;
-    put_rows(&mut text, heap, rating, journal)?;
-    put_byte(&mut text, b'\n')?;
-    put_line(&mut text, Phase::Memory, journal.timeline.answers())?;
-    put_line(&mut text, Phase::Processor, journal.timeline.answers())?;
-    put_text(&mut text, note(rating.verdict()))?;
-    Ok(text)
 }

@@ -1,35 +1,18 @@
-ghost use Rattle.std.specs.Prelude.{◌≡◌, ◌<◌, true, [], ◌∷◌, ◌++◌, length, IfOk, string_bytes, decimal, OnOk};
+ghost use Rattle.std.specs.Prelude.{◌≡◌, ◌<◌, true, [], ◌∷◌, ◌++◌, length, codes, string_bytes, decimal, OnOk};
 ghost use Rattle.listing.specs.Lines.{label_text};
 ghost use Rattle.listing.specs.Text.{two_digits};
 ghost use Rattle.rows.specs.Rows.{is_labelled};
 ghost use Rattle.simulate.specs.Tables.{at_right, word_of};
 
 use rows::row::Label;
-use std::alloc::{AllocError, Global};
+use std::alloc::AllocError;
 
-// Puts a character of a single byte behind a text.
-pub(crate) fn put_byte(text: &mut String, byte: u8) -> Result<(), AllocError>
-    requires { byte < 128 }
-    ensures { OnOk result (string_bytes text.new ≡ string_bytes text.old ++ (byte ∷ [])) }
+// Puts a row's number, which has two digits, and two spaces.
+pub(crate) fn put_number(text: &mut String, k: u8) -> Result<(), AllocError>
+    requires { k < 100 }
+    ensures { OnOk result (string_bytes text.new ≡ string_bytes text.old ++ (two_digits k ++ codes "  ")) }
 {
-    text.push(byte as char)
-}
-
-// Puts a text behind a text.
-pub(crate) fn put_text(text: &mut String, more: &str) -> Result<(), AllocError>
-    ensures { OnOk result (string_bytes text.new ≡ string_bytes text.old ++ more.now) }
-{
-    text.push_str(more)
-}
-
-// Puts a number below 100 in two digits.
-pub(crate) fn put_two_digits(text: &mut String, n: u8) -> Result<(), AllocError>
-    requires { n < 100 }
-    ensures { OnOk result (string_bytes text.new ≡ string_bytes text.old ++ two_digits n) }
-{
-    put_byte(text, b'0' + n / 10)?;
-    put_byte(text, b'0' + n % 10)?;
-    Ok(())
+    write!(text, "{k:02}  ")
 }
 
 // Puts the four bytes of a label.
@@ -44,25 +27,25 @@ pub(crate) fn put_label(text: &mut String, label: Label) -> Result<(), AllocErro
     Ok(())
 }
 
-// Puts a word at the right of a field, with spaces before it.
-pub(crate) fn put_right(text: &mut String, word: &str, width: usize) -> Result<(), AllocError>
-    ensures { OnOk result (string_bytes text.new ≡ string_bytes text.old ++ at_right width word.now) }
+// Puts a character of a single byte behind a text.
+fn put_byte(text: &mut String, byte: u8) -> Result<(), AllocError>
+    requires { byte < 128 }
+    ensures { OnOk result (string_bytes text.new ≡ string_bytes text.old ++ (byte ∷ [])) }
 {
-    let spaces = width.saturating_sub(word.len());
-    for _space in 0..spaces {
-        put_byte(text, b' ')?;
-    }
-    put_text(text, word)?;
-    Ok(())
+    text.push(byte as char)
 }
 
-// A figure in decimal, or a dash for none.
-pub(crate) fn word(heap: Global, figure: Option<u32>) -> Result<String, AllocError>
-    ensures { IfOk result (λ t. string_bytes t ≡ word_of figure) }
+// Puts a figure, or a dash for none, at the right of a field, with a space before it.
+pub(crate) fn put_figure(
+    text: &mut String,
+    figure: Option<u32>,
+    width: usize,
+) -> Result<(), AllocError>
+    ensures { OnOk result (string_bytes text.new ≡ string_bytes text.old ++ (32 ∷ at_right width (word_of figure))) }
 {
     match figure {
-        Some(n) => n.to_string(heap),
-        None => String::from_str(heap, "-"),
+        Some(n) => write!(text, " {n:>width$}"),
+        None => write!(text, " {:>width$}", "-"),
     }
 }
 

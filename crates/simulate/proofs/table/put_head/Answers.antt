@@ -1,9 +1,9 @@
-use Rattle.std.proofs.Common.{string_bytes}
-use Rattle.simulate.specs.Tables.{head_of, width_in}
-use Rattle.simulate.proofs.Texts.{cell_put}
+use Rattle.std.proofs.Common.{◌≡◌, ◌++◌, ◌∷◌, ◌-◌, ◌^◌, OnOk, string_bytes, ap, ◌∙◌, subst}
+use Rattle.std.specs.Fmt.{format_spec, styled_text}
+use Rattle.simulate.proofs.Columns.{head_right}
 use Rattle.simulate.proofs.table.put_head.Goals as goal
 
 pub returns : goal.returns
-returns g c =
-    cell_put (string_bytes c.args.text.now) c.width.result (width_in c.args.rating.now c.args.journal.now c.args.column) c.head.result.now
-    (head_of c.args.column) c.width.ensures c.head.ensures c.in_ok-put_byte.ensures c.in_ok-put_right.ensures
+returns c =
+    subst (λ z. OnOk c.write.result (string_bytes c.write.new.self ≡ string_bytes c.args.text.now ++ (32 ∷ z)))
+    (ap (λ s. styled_text s c.head-head.result.now) c.laid_out.ensures ∙ ap (styled_text (format_spec 32 3 0 c.args.width (2 ^ 64 - 1))) c.head-head.ensures ∙ head_right c.args.width c.args.column) c.write.ensures.bytes

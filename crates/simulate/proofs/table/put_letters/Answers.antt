@@ -8,7 +8,7 @@ pub loop-answer-preserved : goal.loop-answer-preserved
 loop-answer-preserved c =
     mapped_push (λ a. letter_of (holder_of c.args.phase a)) (string_bytes c.args.text.now) c.args.answers.now c.loop-answer.answer-index _ (omega arith)
     c.loop-answer.invariant
-    (c.in_ok-put_byte.ensures ∙ ap (λ n. string_bytes c.loop-answer.text ++ (n ∷ [])) (c.letter.ensures.value ∙ ap letter_of c.holder.ensures))
+    (c.in_ok-push.ensures.bytes ∙ ap (λ z. string_bytes c.loop-answer.text ++ z) (c.in_ok-push.ensures.ascii c.letter.ensures.ascii) ∙ ap (λ n. string_bytes c.loop-answer.text ++ (n ∷ [])) (c.letter.ensures.value ∙ ap letter_of c.holder.ensures))
 
 pub returns : goal.returns
 returns c =

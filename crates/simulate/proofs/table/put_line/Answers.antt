@@ -4,8 +4,8 @@ use Rattle.simulate.proofs.Texts.{then3}
 use Rattle.simulate.proofs.table.put_line.Goals as goal
 
 pub returns : goal.returns
-unfolding line_of
+unfolding line_of lib.Utf8.encode
 returns c =
     then3 (string_bytes c.args.text.now) (name_of c.args.phase) (map (λ a. letter_of (holder_of c.args.phase a)) c.args.answers.now) (10 ∷ [])
-    (c.in_ok-put_text.ensures ∙ ap (λ z. string_bytes c.args.text.now ++ z) c.name.ensures) c.in_ok-put_letters.ensures
-    c.in_ok-put_byte.ensures
+    (c.in_ok-push_str.ensures.bytes ∙ ap (λ z. string_bytes c.args.text.now ++ z) c.name.ensures) c.in_ok-put_letters.ensures
+    c.in_ok-push.ensures.bytes

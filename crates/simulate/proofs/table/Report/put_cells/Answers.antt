@@ -1,0 +1,13 @@
+use Rattle.std.proofs.Common.{◌∷◌, ◌++◌, get_or, string_bytes, ap, ◌∙◌, arith}
+use Rattle.simulate.specs.Tables.{at_right, cell_in, columns, width_in, word_of}
+use Rattle.simulate.specs.declared.column.Column.TheVariants.{Admitted}
+use Rattle.simulate.proofs.Texts.{in_turn-more}
+use Rattle.simulate.proofs.table.Report.put_cells.Goals as goal
+
+pub loop-column-preserved : goal.loop-column-preserved
+loop-column-preserved g c =
+    in_turn-more (cell_in c.args.self.now.rating.now c.args.self.now.journal.now c.args.k) (string_bytes c.args.text.now) columns c.loop-column.column-index Admitted
+    (omega arith) c.loop-column.invariant
+    (c.in_ok-put_figure.ensures
+    ∙ ap (λ w. string_bytes c.loop-column.text ++ (32 ∷ at_right w (word_of c.figure.result))) c.width.ensures
+    ∙ ap (λ f. string_bytes c.loop-column.text ++ (32 ∷ at_right (width_in c.args.self.now.rating.now c.args.self.now.journal.now (get_or columns c.loop-column.column-index Admitted)) (word_of f))) c.figure.ensures)

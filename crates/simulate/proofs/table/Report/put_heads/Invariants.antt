@@ -1,0 +1,6 @@
+use Rattle.std.proofs.Common.{◌≡◌, ◌++◌, take, string_bytes}
+use Rattle.simulate.specs.Tables.{columns, head_in, in_turn}
+use Rattle.simulate.proofs.table.Report.put_heads.Given as goal
+
+abbrev pub invariant-loop-column : goal.invariant-loop-column
+invariant-loop-column g l = string_bytes l.text ≡ string_bytes l.initial.text ++ in_turn (head_in l.self.rating.now l.self.journal.now) (take l.column-index columns)
