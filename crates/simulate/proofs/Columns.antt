@@ -1,14 +1,31 @@
 -- What is printed into a field of some width.
-use Rattle.std.proofs.Common.{◌≡◌, ℕ, zero, suc, ◌-◌, ◌/◌, ◌%◌, ◌^◌, ◌<◌, false, eqb, List, [], ◌∷◌, length, decimal, refl, ◌∙◌, inl, inr, arith, lit<}
+use Rattle.std.proofs.Common.{◌≡◌, ℕ, zero, suc, ◌+◌, ◌-◌, ◌*◌, ◌/◌, ◌%◌, ◌^◌, ◌<◌, ◌≤◌, false, eqb, List, [], ◌∷◌, ◌++◌, length, decimal, refl, ◌∙◌, pow-suc, inl, inr, arith, lit<}
 use Rattle.std.proofs.lemmas.Bool.{cases_lt, ne_eqb}
-use Rattle.std.proofs.lemmas.Fmt.{decimal_digit, decimal_step}
-use Rattle.std.proofs.lemmas.List.{append-nil}
+use Rattle.std.proofs.lemmas.Fmt.{decimal_by_steps, decimal_digit, decimal_step}
+use Rattle.std.proofs.lemmas.List.{append-nil, length_push}
+use Rattle.std.proofs.Math.Nat.{one-le-pow}
 use Rattle.std.proofs.Padding.{padded_integral_right, padded_integral_zeros, repeat_ascii, styled_decimal_is, take_chars_all}
 use Rattle.std.specs.Fmt.{char_count, format_spec, padded, styled_decimal, styled_text}
 use Rattle.listing.specs.Text.{two_digits}
 use Rattle.simulate.specs.Tables.{at_right, head_of}
 use Rattle.simulate.specs.declared.column.Column.{Column}
 use Rattle.simulate.specs.declared.column.Column.TheVariants.{Admitted, Finished, Load, MemoryBound, Response, WholeBound, Memory, Processor}
+
+-- a number from 10 ^ k on, and below the next power of ten, has k + 1 digits
+abbrev HasDigits : ℕ → List ℕ → Type 0
+HasDigits n ds = (k : ℕ) → 10 ^ k ≤ n → n < 10 * 10 ^ k → length ds ≡ k + 1
+
+one_digit : (n : ℕ) → n < 10 → HasDigits n ((48 + n) ∷ [])
+one_digit n small zero from below = refl
+one_digit n small (suc k) from below = absurd (omega (arith, pow-suc 10 k, one-le-pow k 10 (omega arith)))
+
+digit_more : (n : ℕ) (ds : List ℕ) → 10 ≤ n → HasDigits (n / 10) ds → HasDigits n (ds ++ ((48 + n % 10) ∷ []))
+digit_more n ds large has zero from below = absurd (omega arith)
+digit_more n ds large has (suc k) from below =
+    omega (arith, length_push ds (48 + n % 10), has k (omega (arith, pow-suc 10 k)) (omega (arith, pow-suc 10 k)))
+
+pub length-decimal : (n k : ℕ) → n < 2 ^ 64 → 10 ^ k ≤ n → n < 10 * 10 ^ k → length (decimal n) ≡ k + 1
+length-decimal n k fits = decimal_by_steps HasDigits one_digit digit_more n fits k
 
 -- `{n:02}`
 pub number_two : (n : ℕ) → n < 100 → styled_decimal (format_spec 32 0 4 2 (2 ^ 64 - 1)) n ≡ two_digits n

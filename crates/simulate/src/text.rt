@@ -53,16 +53,15 @@ pub(crate) fn put_figure(
 pub(crate) fn word_width(figure: Option<u32>) -> usize
     ensures { result ≡ length (word_of figure) }
 {
-    match figure {
-        Some(n) => digits(n),
-        None => 1,
-    }
+    figure.map_or(1, digits)
 }
 
 // How many digits a number has in decimal.
 fn digits(n: u32) -> usize
-    ensures value { result ≡ length (decimal n) }
-    ensures few { result < 11 }
+    ensures { result ≡ length (decimal n) }
 {
-    if n < 10 { 1 } else { digits(n / 10) + 1 }
+    match n.checked_ilog10() {
+        Some(tens) => tens as usize + 1,
+        None => 1,
+    }
 }
