@@ -20,36 +20,7 @@ use Rattle.simulate.specs.declared.journal.Journal.{Journal}
 use Rattle.simulate.specs.declared.tally.Tally.{Tally}
 use Rattle.simulate.proofs.Entries.{noted_counted}
 
--- one is at most one
-at_most_one : (b : Bool) → one b ≤ 1
-at_most_one true = omega arith
-at_most_one false = omega arith
-
-pub weaker : (n m : ℕ) (x : Tally) → n ≤ m → AtMost n x → AtMost m x
-weaker n m x h a = record {
-  admitted = omega (arith, a.admitted);
-  finished = omega (arith, a.finished);
-  memory = omega (arith, a.memory);
-  processor = omega (arith, a.processor);
-}
-
 module _ {A B P : Type 0} (view : P → View) where
-  more : (n k : ℕ) (s : Run A B P) (answer : Answer) (x : Tally) → AtMost n x → AtMost (n + 1) (counted view k s answer x)
-  more n k s answer x a = record {
-    admitted = omega (arith, a.admitted, at_most_one (takes (offered view s k) (place s k)));
-    finished = omega (arith, a.finished, at_most_one (is_some (response_of answer k)));
-    memory = omega (arith, a.memory, at_most_one (names answer.memory k));
-    processor = omega (arith, a.processor, at_most_one (names answer.processor k));
-  }
-
-  -- no count rises by more than one in a step
-  pub fair_on : (s u : Run A B P) (x y : Journal) → Noted view s x u y → Fair s x → Fair u y
-  fair_on s u x y n h k =
-      ⊎_elim
-      (λ l. subst (λ z. AtMost z (tally_at y.tallies k)) (sym n.stepped.number) (subst (AtMost (s.number + 1)) (sym (n.rows k l)) (more s.number k s n.answer (tally_at x.tallies k) (h k))))
-      (λ l. weaker s.number u.number (tally_at y.tallies k) (omega (arith, n.stepped.number)) (subst (AtMost s.number) (sym (n.others k l)) (h k)))
-      (cases_lt k (length (rows_in s)))
-
   -- what is noted from the places before and after a step is what the step did
   pub noted_step : (s u : Run A B P) (x y : Journal) (answer : Answer) (free : List Bool)
       → Stepped view (Along (memory_ranking s)) (Along (processor_ranking s)) s answer u

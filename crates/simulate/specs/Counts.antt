@@ -23,6 +23,11 @@ use Rattle.simulate.specs.declared.tally.Tally.{Tally}
 abbrev pub tally_at : List Tally → ℕ → Tally
 tally_at xs k = slice_index_or xs k unmarked
 
+-- a journal of no steps
+pub record Blank (x : Journal) : Type 0 where
+  pub rows : (k : ℕ) → tally_at x.tallies k ≡ unmarked
+  pub line : answers_in x.timeline ≡ []
+
 -- the load time, at the end of step t, of a job that the memory serves: it is over if one memory step was left
 abbrev pub loaded_in : ℕ → Slot → ℕ
 loaded_in t Empty = 0

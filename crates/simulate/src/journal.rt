@@ -1,7 +1,7 @@
-ghost use Rattle.std.specs.Prelude.{◌≡◌, ℕ, ◌<◌, ◌≤◌, false, [], length, slice_index_or};
+ghost use Rattle.std.specs.Prelude.{◌≡◌, ℕ, ◌<◌, ◌≤◌, false, length, slice_index_or};
 ghost use Rattle.board.specs.Runs.{place, rows_in};
-ghost use Rattle.simulate.specs.Counts.{tally_at};
-ghost use Rattle.simulate.specs.Tallies.{AtMost, noted, unmarked};
+ghost use Rattle.simulate.specs.Counts.{Blank, tally_at};
+ghost use Rattle.simulate.specs.Tallies.{AtMost, noted};
 ghost use Rattle.simulate.specs.Timelines.{answers_in, joined};
 
 use crate::tally::Tally;
@@ -18,8 +18,7 @@ pub(crate) struct Journal {
 impl Journal {
     // A journal of no steps.
     pub(crate) fn new() -> Journal
-        ensures rows { (k : ℕ) → tally_at result.tallies k ≡ unmarked }
-        ensures line { answers_in result.timeline ≡ [] }
+        ensures { Blank result }
     {
         Journal {
             tallies: [Tally::default(); 32],

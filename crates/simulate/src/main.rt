@@ -1,16 +1,14 @@
 #![tactic(auto)]
 
-ghost use Rattle.simulate.specs.Counts.{Fair, KeepsBounds, Simulated};
+ghost use Rattle.simulate.specs.Counts.{KeepsBounds, Simulated};
 ghost use Rattle.std.specs.Prelude.{OnOk};
 
 use crate::beginning::begin;
-use crate::journal::Journal;
 use crate::pile::clockwork;
 use crate::request::{Request, sample};
-use crate::stepping::simulate;
+use crate::stepping::Simulation;
 use crate::stop::{Stop, refusal};
 use crate::table::Report;
-use board::run::Run;
 use feeds::feed::Feed;
 use feeds::pledge::Pledge;
 use listing::fault::ListingFault;
@@ -107,17 +105,16 @@ fn read_list(rt: &HostRuntime, name: String) -> Result<Vec<u8>, Stop> {
 
 // Runs a draft over a feed, and prints the listing and what the run showed.
 fn show<F: Feed + Drop>(rt: &HostRuntime, draft: Draft, below: F, steps: u32) -> Result<(), Stop> {
-    let mut run = begin(draft, below);
-    print_listing(rt, |out| list_rating(run.rating(), out))?;
-    let mut journal = Journal::new();
+    let mut simulation = Simulation::new(begin(draft, below));
+    print_listing(rt, |out| list_rating(simulation.run.rating(), out))?;
     if steps > LONG {
-        simulate_long(rt, &mut run, steps, &mut journal)?;
+        advance_long(rt, &mut simulation, steps)?;
     } else {
-        simulate(&mut run, steps, &mut journal);
+        simulation.advance(steps);
     }
     let report = Report {
-        rating: run.rating(),
-        journal: &journal,
+        rating: simulation.run.rating(),
+        journal: &simulation.journal,
     };
     let text = report.text(rt.alloc())?;
     rt.stdout().write_all(text.as_bytes())?;
@@ -125,19 +122,17 @@ fn show<F: Feed + Drop>(rt: &HostRuntime, draft: Draft, below: F, steps: u32) ->
 }
 
 // Steps a run so many times, and tells after each tenth of them how far it is.
-fn simulate_long<A, B, P: Feed>(
+fn advance_long<A, B, P: Feed>(
     rt: &HostRuntime,
-    run: &mut Run<A, B, P>,
+    simulation: &mut Simulation<A, B, P>,
     steps: u32,
-    journal: &mut Journal,
 ) -> io::Result<()>
-    requires { Fair run.old journal.old }
-    ensures done { OnOk result (Simulated P.Pledge.view steps run.old journal.old run.new journal.new) }
-    ensures kept { OnOk result (KeepsBounds P.Pledge.view run.old journal.old journal.new) }
+    ensures done { OnOk result (Simulated P.Pledge.view steps simulation.old.run simulation.old.journal simulation.new.run simulation.new.journal) }
+    ensures kept { OnOk result (KeepsBounds P.Pledge.view simulation.old.run simulation.old.journal simulation.new.journal) }
 {
-    simulate(run, steps % 10, journal);
+    simulation.advance(steps % 10);
     for tenth in 1..11u8 {
-        simulate(run, steps / 10, journal);
+        simulation.advance(steps / 10);
         eprintln!(rt; "simulate: {tenth}0 %")?;
     }
     Ok(())

@@ -1,6 +1,6 @@
 ghost use Rattle.std.specs.Prelude.{◌≡◌, ℕ, ◌<◌, false, length, slice_index_or};
 ghost use Rattle.board.specs.Runs.{place, rows_in};
-ghost use Rattle.simulate.specs.Counts.{Fair, KeepsBounds, NotedOrLast, Simulated};
+ghost use Rattle.simulate.specs.Counts.{Blank, Fair, KeepsBounds, NotedOrLast, Simulated};
 ghost use Rattle.simulate.specs.Tallies.{is_free};
 
 use crate::journal::Journal;
@@ -9,31 +9,48 @@ use board::run::{Run, Slot};
 use feeds::feed::Feed;
 use feeds::pledge::Pledge;
 
-// Steps a run so many times, and takes each step into a journal. Where the guarantee holds, no time that the journal shows
-// is above its bound.
-pub(crate) fn simulate<A, B, P: Feed>(run: &mut Run<A, B, P>, steps: u32, journal: &mut Journal)
-    requires { Fair run.old journal.old }
-    ensures done { Simulated P.Pledge.view steps run.old journal.old run.new journal.new }
-    ensures kept { KeepsBounds P.Pledge.view run.old journal.old journal.new }
-    ensures fair { Fair run.new journal.new }
-{
-    for _step in 0..steps {
-        let Ok(()) = step_once(run, journal) else {
-            break;
-        };
-    }
+// A run, and the journal of its steps: no count of the journal is above the run's number.
+#[derive(Drop)]
+pub(crate) struct Simulation<A, B, P> {
+    pub(crate) run: Run<A, B, P>,
+    pub(crate) journal: Journal,
+    ghost fair: { Fair run journal },
 }
 
-// One step of a run, taken into a journal.
-fn step_once<A, B, P: Feed>(run: &mut Run<A, B, P>, journal: &mut Journal) -> Result<(), StepFault>
-    requires { Fair run.old journal.old }
-    ensures done { NotedOrLast P.Pledge.view run.old journal.old result run.new journal.new }
-    ensures fair { Fair run.new journal.new }
-{
-    let free = free_places(run);
-    let answer = run.step()?;
-    journal.note(&free, &answer, run);
-    Ok(())
+impl<A, B, P: Feed> Simulation<A, B, P> {
+    // A run that is watched from where it is.
+    pub(crate) fn new(run: Run<A, B, P>) -> Simulation<A, B, P>
+        ensures run { result.run ≡ run }
+        ensures blank { Blank result.journal }
+    {
+        Simulation {
+            run,
+            journal: Journal::new(),
+        }
+    }
+
+    // Steps the run so many times, and takes each step into the journal. Where the guarantee holds, no time that the journal
+    // shows is above its bound.
+    pub(crate) fn advance(&mut self, steps: u32)
+        ensures done { Simulated P.Pledge.view steps self.old.run self.old.journal self.new.run self.new.journal }
+        ensures kept { KeepsBounds P.Pledge.view self.old.run self.old.journal self.new.journal }
+    {
+        for _step in 0..steps {
+            let Ok(()) = self.step() else {
+                break;
+            };
+        }
+    }
+
+    // One step of the run, taken into the journal.
+    fn step(&mut self) -> Result<(), StepFault>
+        ensures { NotedOrLast P.Pledge.view self.old.run self.old.journal result self.new.run self.new.journal }
+    {
+        let free = free_places(&self.run);
+        let answer = self.run.step()?;
+        self.journal.note(&free, &answer, &self.run);
+        Ok(())
+    }
 }
 
 // Which rows have no job.

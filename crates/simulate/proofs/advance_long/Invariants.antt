@@ -1,7 +1,8 @@
 use Rattle.std.proofs.Common.{◌-◌, ◌*◌, ◌/◌}
-use Rattle.simulate.specs.Counts.{Fair, Simulated}
-use Rattle.simulate.proofs.simulate_long.Given as goal
+use Rattle.simulate.specs.Counts.{Simulated}
+use Rattle.simulate.proofs.advance_long.Given as goal
 
 abbrev pub invariant-loop-tenth : goal.invariant-loop-tenth
-invariant-loop-tenth g l = Fair l.run l.journal
-    × Simulated g.P.Pledge.view (l.steps / 10 * (l.tenth-counter - 1)) l.initial.run l.initial.journal l.run l.journal
+invariant-loop-tenth g l =
+    Simulated g.P.Pledge.view (l.steps / 10 * (l.tenth-counter - 1)) l.initial.simulation.run l.initial.simulation.journal l.simulation.run
+    l.simulation.journal
