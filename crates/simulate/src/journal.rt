@@ -4,7 +4,7 @@ ghost use Rattle.simulate.specs.Counts.{Blank, tally_at};
 ghost use Rattle.simulate.specs.Tallies.{AtMost, noted};
 ghost use Rattle.simulate.specs.Timelines.{answers_in, joined};
 
-use crate::tally::Tally;
+use crate::tally::{Seen, Tally};
 use crate::timeline::Timeline;
 use board::run::{Answer, Run};
 
@@ -60,6 +60,13 @@ fn noted_row<A, B, P>(tally: Tally, k: u8, free: bool, answer: &Answer, run: &Ru
     ensures row { k < length (rows_in run.now) → result ≡ noted k free answer.now (place run.now k) tally }
     ensures other { length (rows_in run.now) ≤ k → result ≡ tally }
 {
-    run.place(k)
-        .map_or(tally, |after| tally.noted(k, free, answer, after))
+    let Some(after) = run.place(k) else {
+        return tally;
+    };
+    tally.noted(&Seen {
+        row: k,
+        free,
+        answer: *answer,
+        after,
+    })
 }

@@ -41,6 +41,7 @@ pub(crate) fn guarded<F: Feed>(below: F, draft: &Draft) -> Gate<CutOff<F>>
 }
 
 // A cut-off over a feed at the costs of each row of a draft.
+// Stays: (d) one walk for cut and space takes a trait of layers set by a row, whose laws repeat both clauses, and two impls.
 fn cut<F: Feed>(below: F, draft: &Draft) -> CutOff<F>
     ensures { CutTo (rows_of draft.now) below result }
 {

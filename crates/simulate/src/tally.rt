@@ -16,59 +16,69 @@ pub(crate) struct Tally {
 }
 
 impl Tally {
-    // The tally after a step in which the place of row k, which was free before or not, became `after`.
-    pub(crate) fn noted(self, k: u8, free: bool, answer: &Answer, after: Slot) -> Tally
-        requires { (AtMost 2000000000 self) × (answer.now.step ≤ 2000000000) }
-        ensures { result ≡ noted k free answer.now after self }
+    // The tally after a step that was seen.
+    pub(crate) fn noted(self, seen: &Seen) -> Tally
+        requires { AtMost 2000000000 self }
+        ensures { result ≡ noted seen.now.row seen.now.free seen.now.answer seen.now.after self }
     {
-        let ended = response_of(answer, k);
+        let ended = seen.response();
         Tally {
-            admitted: self.admitted + u32::from(has_entered(k, free, answer, after)),
+            admitted: self.admitted + u32::from(seen.has_entered()),
             finished: self.finished + u32::from(ended.is_some()),
-            load: self.load.max(load_of(k, answer, after)),
+            load: self.load.max(seen.load()),
             response: self.response.max(ended.unwrap_or(0)),
-            memory: self.memory + u32::from(answer.memory == Some(k)),
-            processor: self.processor + u32::from(answer.processor == Some(k)),
+            memory: self.memory + u32::from(seen.answer.memory == Some(seen.row)),
+            processor: self.processor + u32::from(seen.answer.processor == Some(seen.row)),
         }
     }
 }
 
-// The response of row k, if it finished in a step.
-fn response_of(answer: &Answer, k: u8) -> Option<u32>
-    ensures { result ≡ response_of answer.now k }
-{
-    let (j, response) = answer.finished?;
-    (j == k).then_some(response)
+// What is seen of a row in a step: whether its place was free before, the step's answer, and its place after it.
+#[derive(Clone, Copy)]
+pub(crate) struct Seen {
+    pub(crate) row: u8,
+    pub(crate) free: bool,
+    pub(crate) answer: Answer,
+    pub(crate) after: Slot,
+    ghost early: { answer.step ≤ 2000000000 },
 }
 
-// Whether an arrival of row k was admitted in a step: its place was free, and now it has a job, or the job finished at once.
-fn has_entered(k: u8, free: bool, answer: &Answer, after: Slot) -> bool
-    ensures { result ≡ has_entered k free answer.now after }
-{
-    let ended = response_of(answer, k).is_some();
-    let taken = !matches!(after, Slot::Empty);
-    free && (ended || taken)
-}
-
-// The time from its admission to the end of a step of a job that computes next.
-fn load_in(step: u32, after: Slot) -> u32
-    requires { step ≤ 2000000000 }
-    ensures { result ≡ load_in step after }
-{
-    match after {
-        Slot::Computing { left: _, since } => (step + 1).saturating_sub(since),
-        _ => 0,
+impl Seen {
+    // The response of the row, if it finished.
+    fn response(&self) -> Option<u32>
+        ensures { result ≡ response_of self.now.answer self.now.row }
+    {
+        let (row, response) = self.answer.finished?;
+        (row == self.row).then_some(response)
     }
-}
 
-// The load time of the job of row k, if the memory served it for the last time in a step, else 0.
-fn load_of(k: u8, answer: &Answer, after: Slot) -> u32
-    requires { answer.now.step ≤ 2000000000 }
-    ensures { result ≡ load_of k answer.now after }
-{
-    if answer.memory == Some(k) {
-        load_in(answer.step, after)
-    } else {
-        0
+    // Whether an arrival of the row was admitted: its place was free, and now it has a job, or the job finished at once.
+    fn has_entered(&self) -> bool
+        ensures { result ≡ has_entered self.now.row self.now.free self.now.answer self.now.after }
+    {
+        let ended = self.response().is_some();
+        let taken = !matches!(self.after, Slot::Empty);
+        self.free && (ended || taken)
+    }
+
+    // The load time of the row's job, if the memory served it for the last time, else 0.
+    fn load(&self) -> u32
+        ensures { result ≡ load_of self.now.row self.now.answer self.now.after }
+    {
+        if self.answer.memory == Some(self.row) {
+            self.load_time()
+        } else {
+            0
+        }
+    }
+
+    // The time from its admission to the end of the step of a job that computes next.
+    fn load_time(&self) -> u32
+        ensures { result ≡ load_in self.now.answer.step self.now.after }
+    {
+        match self.after {
+            Slot::Computing { left: _, since } => (self.answer.step + 1).saturating_sub(since),
+            _ => 0,
+        }
     }
 }
