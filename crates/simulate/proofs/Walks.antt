@@ -1,11 +1,9 @@
 -- A step that is taken into a journal.
-use Rattle.std.proofs.Common.{◌≡◌, ℕ, suc, ◌+◌, ◌-◌, ◌*◌, ◌/◌, ◌%◌, ◌<◌, ◌≤◌, Bool, true, false, List, ◌∷◌, length, get_or, is_some, sym, ap, ◌∙◌, subst, ⊎_elim, mul-suc, arith}
+use Rattle.std.proofs.Common.{◌≡◌, ℕ, suc, ◌+◌, ◌-◌, ◌*◌, ◌/◌, ◌%◌, ◌<◌, ◌≤◌, Bool, false, List, ◌∷◌, length, get_or, sym, ap, ◌∙◌, subst, mul-suc, arith}
 use native.Mathlib.Nat.{mod-add-div'}
-use Rattle.std.proofs.lemmas.Bool.{cases_lt}
 use Rattle.feeds.specs.Meanings.{View}
-use Rattle.schedule.specs.Places.{names, takes}
 use Rattle.board.specs.Chains.{stepped}
-use Rattle.board.specs.Runs.{Along, Stepped, memory_ranking, offered, place, processor_ranking, rows_in}
+use Rattle.board.specs.Runs.{Along, Stepped, memory_ranking, place, processor_ranking, rows_in}
 use Rattle.board.specs.declared.run.Answer.{Answer}
 use Rattle.board.specs.declared.run.Run.{Run}
 use Rattle.rows.specs.Drafts.{rows_of}
@@ -13,11 +11,10 @@ use Rattle.rating.specs.Ranked.{ranked}
 use Rattle.rating.specs.Ratings.{draft_in, ranking_in}
 use Rattle.rating.specs.declared.rating.Rating.{Rating}
 use Rattle.rating.specs.declared.verdict.Phase.TheVariants.{Memory, Processor}
-use Rattle.simulate.specs.Counts.{Fair, Noted, Simulated, Tells, counted, tally_at}
-use Rattle.simulate.specs.Tallies.{AtMost, is_free, noted, one, response_of}
+use Rattle.simulate.specs.Counts.{Noted, Simulated, Tells, counted, tally_at}
+use Rattle.simulate.specs.Tallies.{is_free, noted}
 use Rattle.simulate.specs.Timelines.{answers_in, joined}
 use Rattle.simulate.specs.declared.journal.Journal.{Journal}
-use Rattle.simulate.specs.declared.tally.Tally.{Tally}
 use Rattle.simulate.proofs.Entries.{noted_counted}
 
 module _ {A B P : Type 0} (view : P → View) where

@@ -1,4 +1,4 @@
-use Rattle.std.proofs.Common.{◌≡◌, length, decimal, sym, ap, ◌∙◌, arith}
+use Rattle.std.proofs.Common.{◌≡◌, length, sym, ap, arith}
 use Rattle.std.proofs.lemmas.Fmt.{decimal_digit}
 use Rattle.simulate.proofs.Columns.{length-decimal}
 use Rattle.simulate.proofs.text.digits.Goals as goal
