@@ -1,9 +1,6 @@
-use Rattle.std.proofs.Common.{◌≡◌, ℕ, ◌+◌, true, List, [], ◌++◌, is_some, None, Ok, Option, Result, sym, refl, ap, ◌∙◌, subst, inl, inr, append_assoc, add-one, arith}
+use Rattle.std.proofs.Common.{◌≡◌, ℕ, ◌+◌, true, List, [], ◌++◌, is_some, None, Option, sym, refl, ap, ◌∙◌, subst, inl, inr, append_assoc, add-one, arith}
 use Rattle.std.proofs.lemmas.Bool.{cases_eq}
-use Rattle.feeds.specs.Marks.{MarkMade}
 use Rattle.feeds.specs.Meanings.{Taken, View}
-use Rattle.feeds.specs.declared.fault.MarkFault.{MarkFault}
-use Rattle.feeds.specs.declared.mark.Mark.{Mark}
 use Rattle.arrivals.specs.Takings.{Runs, StepMade, TakenBelow, taking_of, takings_below}
 use Rattle.arrivals.specs.declared.takings.Taking.{Taking}
 
@@ -57,10 +54,6 @@ pub run_on : (wanted : ℕ) (v : View) (t : ℕ) (before : List Taking) (u : Vie
     → Runs wanted v (t + 1) ts w
 unfolding Runs
 run_on wanted v t before u ts w runs step = rw add-one (before, (u, (runs, step)))
-
--- the mark of a number has that number
-pub mark-value : (i : ℕ) (r : Result Mark MarkFault) (k : Mark) → MarkMade i r → r ≡ Ok k → k.value ≡ i
-mark-value i r k h e = let P : Result Mark MarkFault → Type 0 = MarkMade i in (subst P e h).1
 
 -- what is offered at mark k, the next one, is taken
 pub mark_on : (t n : ℕ) (v u w : View) (first before after : List Taking) → before ≡ first ++ takings_below t v.offer n → TakenBelow n v u → (k : ℕ) → k ≡ n

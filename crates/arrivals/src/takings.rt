@@ -26,8 +26,8 @@ pub(crate) fn gate_over<F: Feed>(below: F, distance: u32) -> Gate<F>
     ensures { GateOver below distance result }
 {
     let mut gate = Gate::new(below);
-    for i in 0..32 {
-        gate.set(Mark::new(i).unwrap(), distance).unwrap();
+    for k in Mark::all() {
+        gate.set(k, distance).unwrap();
     }
     gate
 }
@@ -60,8 +60,8 @@ fn take_step<F: Feed>(feed: &mut F, step: u32, takings: &mut Vec<Taking>) -> Res
     ensures listed { OnOk result (takings.new.items ≡ takings.old.items ++ takings_below step (F.Pledge.view feed.old).offer 32) }
     ensures taken { OnOk result (StepTaken (F.Pledge.view feed.old) (F.Pledge.view feed.new)) }
 {
-    for i in 0..32 {
-        take_mark(feed, Mark::new(i).unwrap(), step, takings)?;
+    for k in Mark::all() {
+        take_mark(feed, k, step, takings)?;
     }
     Ok(())
 }
@@ -75,11 +75,12 @@ pub(crate) fn take_steps<F: Feed>(
     ensures { IfOk result (λ takings. Journal wanted (F.Pledge.view feed.old) takings.items (F.Pledge.view feed.new)) }
 {
     let mut takings = Vec::new(heap);
-    let mut step = 0;
-    while step < STEPS && takings.len() < wanted {
+    for step in 0..STEPS {
+        if takings.len() >= wanted {
+            break;
+        }
         take_step(feed, step, &mut takings)?;
         feed.advance();
-        step += 1;
     }
     Ok(takings)
 }

@@ -3,7 +3,7 @@ use Rattle.layers.specs.Gates.{Spaced, spacing}
 use Rattle.arrivals.proofs.takings.gate_over.Given as goal
 
 -- the marks passed have the distance, and every mark is open
-abbrev pub invariant-loop-i : goal.invariant-loop-i
-invariant-loop-i g l =
-    (l.gate.below ≡ l.initial.gate.below) × ((k : ℕ) → k < l.i → Spaced (spacing l.gate k) l.distance 0)
+abbrev pub invariant-loop-k : goal.invariant-loop-k
+invariant-loop-k g l =
+    (l.gate.below ≡ l.initial.gate.below) × ((k : ℕ) → k < l.k-index → Spaced (spacing l.gate k) l.distance 0)
     × ((k : ℕ) → (spacing l.gate k).rest ≡ 0)
