@@ -1,7 +1,6 @@
 use filter::convert::{make_book, show_book};
 use filter::fault::ConvertFault;
 use lines::fault::{BadWord, Reason};
-use std::alloc::{AllocError, Global};
 use std::test::Fail;
 use tables::fault::{BadLine, LineFault};
 use tables::read::read_table;
@@ -81,22 +80,16 @@ fn rules(rt: HostRuntime) {
     }
 }
 
-// A table of so many rows.
-fn filled(heap: Global, count: u8) -> Result<String, AllocError> {
-    let mut text = String::new(heap);
-    for _row in 0..count {
-        text.push_str("TAGS 1 1 10 10 0 0\n")?;
-    }
-    Ok(text)
-}
+// The line of a row that any table may have.
+const ROW: &str = "TAGS 1 1 10 10 0 0\n";
 
 // 32 rows are taken, and a 33rd is told.
 #[test]
 fn full(rt: HostRuntime) -> Result<(), Fail> {
     let heap = rt.alloc();
-    let most = filled(heap, 32)?;
+    let most = ROW.repeat(heap, 32)?;
     assert_eq!(rt; fault_of(most.as_str()), None);
-    let more = filled(heap, 33)?;
+    let more = ROW.repeat(heap, 33)?;
     assert_eq!(rt; refused(more.as_str()), (33, 21));
     Ok(())
 }
