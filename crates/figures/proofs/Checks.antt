@@ -13,6 +13,7 @@ use Rattle.rating.specs.declared.verdict.Phase.{Phase}
 use Rattle.rating.specs.declared.verdict.Phase.TheVariants.{Memory, Processor}
 use Rattle.rating.specs.declared.verdict.Verdict.{Verdict}
 use Rattle.rating.specs.declared.verdict.Verdict.TheVariants.{Accepted, Late}
+use Rattle.rating.proofs.Firsts.{some-value}
 use Rattle.rating.proofs.Curves.{found_least, least_within-none, least_within-some}
 use Rattle.figures.specs.Table.{Figure, FiguresStand, Right, Says, by_memory, by_processor, figures, no_figure}
 
@@ -51,10 +52,6 @@ none : (o : Option ℕ) → not (is_some o) ≡ true → o ≡ None
 none None e = refl
 none (Some v) e = absurd (let z : false ≡ true = e in search arith)
 
-some : (o : Option ℕ) → is_some o ≡ true → o ≡ Some (unwrap_or o 0)
-some None e = absurd (let z : false ≡ true = e in search arith)
-some (Some v) e = refl
-
 -- the bound of a row within its ceiling, by an order's relation
 abbrev bounded : Phase → List Row → (ℕ → ℕ) → Before → ℕ → Option ℕ
 bounded phase rows late b k = least_within (work_of phase rows late (rows_before b rows k) k) (ceiling_of phase (row_of rows k) (late k))
@@ -78,7 +75,7 @@ first_late_is phase rows late b k e =
       none = least_within-none (work_of phase rows late (rows_before b rows k) k) _ (none (bounded phase rows late b k) more.0);
       before = λ j h c.
           let here = at (λ i. not (comes b rows i k) || is_some (bounded phase rows late b i)) (length rows) more.1 j h
-          in let w = some (bounded phase rows late b j) (passed (comes b rows j k) (is_some (bounded phase rows late b j)) c here)
+          in let w = some-value (bounded phase rows late b j) (passed (comes b rows j k) (is_some (bounded phase rows late b j)) c here)
           in (unwrap_or (bounded phase rows late b j) 0, least_within-some (work_of phase rows late (rows_before b rows j) j) _ _ w);
     }
 

@@ -1,6 +1,8 @@
-use Rattle.std.proofs.Common.{◌≡◌, ℕ, max, Bool, true, false, ◌&&◌, eqb, ltb, List, [], ◌∷◌, refl, ap, ◌∙◌}
-use Rattle.std.proofs.lemmas.Bool.{and_parts, both_ways, eqb-true, ltb-true}
+use Rattle.std.proofs.Common.{◌≡◌, ℕ, max, Bool, true, ◌&&◌, eqb, ltb, List, refl, ap, ◌∙◌}
+use Rattle.std.proofs.lemmas.Bool.{and_parts, eqb-true, ltb-true}
+use Rattle.std.proofs.lemmas.Slice.Eq.{bytes_eq-Decides}
 use Rattle.std.specs.List.{list_all}
+use Rattle.std.specs.Str.{bytes_eq}
 use Rattle.figures.proofs.Entries.{each}
 use Rattle.layers.specs.Gates.{spacing}
 use Rattle.lists.specs.ListRecords.{checked_at, seek_from, sound_from}
@@ -21,34 +23,20 @@ gates_right f e = record {
       ∙ eqb-true (max f.upper (max f.lower 1)) f.pledged e;
 }
 
-abbrev same : List ℕ → List ℕ → Bool
-same [] [] = true
-same [] (y ∷ ys) = false
-same (x ∷ xs) [] = false
-same (x ∷ xs) (y ∷ ys) = eqb x y && same xs ys
-
-same-is : (xs ys : List ℕ) → same xs ys ≡ true → xs ≡ ys
-same-is [] [] e = refl
-same-is [] (y ∷ ys) e = absurd (both_ways false refl e)
-same-is (x ∷ xs) [] e = absurd (both_ways false refl e)
-same-is (x ∷ xs) (y ∷ ys) e =
-    let parts = and_parts (eqb x y) (same xs ys) e
-    in ap (λ (n : ℕ). n ∷ xs) (eqb-true x y parts.0) ∙ ap (λ (l : List ℕ). y ∷ l) (same-is xs ys parts.1)
-
 -- the steps with a taking, by the definitions
 abbrev takings : Passage → List ℕ
 takings f = taken_from 0 (answers f.bytes f.mark f.distance f.steps (first f.bytes f.mark))
 
 abbrev is_passed : Passage → Bool
-is_passed f = ltb f.mark 32 && same (takings f) f.taken
+is_passed f = ltb f.mark 32 && bytes_eq (takings f) f.taken
 
 passage_right : (f : Passage) → is_passed f ≡ true → PassageRight f
 passage_right f e =
-    let parts = and_parts (ltb f.mark 32) (same (takings f) f.taken) e
+    let parts = and_parts (ltb f.mark 32) (bytes_eq (takings f) f.taken) e
     in record {
       taken = λ x rs new n a.
           ap (taken_from 0) (passages f.bytes f.mark f.distance f.steps (ltb-true f.mark 32 parts.0) x rs new n a)
-          ∙ same-is (takings f) f.taken parts.1;
+          ∙ (bytes_eq-Decides (takings f) f.taken).0 parts.1;
     }
 
 abbrev is_right : Pile → Bool
