@@ -1,19 +1,13 @@
 -- Book A is accepted under its two rank orders.
-use Rattle.std.proofs.Common.{ℕ, zero, suc, ◌+◌, ◌<◌, ◌≤◌, [], ◌∷◌, refl, arith}
+use Rattle.std.proofs.Common.{ℕ, ◌+◌, ◌≤◌, [], ◌∷◌, refl, arith}
 use Rattle.rating.specs.Bounds.{figure_at, memory_work, processor_work, row_of}
 use Rattle.rating.specs.Closing.{Accepts}
 use Rattle.rating.specs.Curves.{LeastSolution, first_solution}
 use Rattle.rating.specs.Orders.{Before, by_figure}
 use Rattle.rating.specs.Rankings.{keep, rows_before, sum_over, up_to}
 use Rattle.rating.proofs.Curves.{found_least}
+use Rattle.schedule.proofs.Example.{three}
 use Rattle.board.specs.Example.{book_a}
-
--- what holds of the three rows holds of each row
-three : (Q : ℕ → Type 0) → Q 0 → Q 1 → Q 2 → (k : ℕ) → k < 3 → Q k
-three Q x y z zero h = x
-three Q x y z (suc zero) h = y
-three Q x y z (suc (suc zero)) h = z
-three Q x y z (suc (suc (suc k))) h = absurd (omega arith)
 
 abbrev pub by_memory : Before
 by_memory = (by_figure (λ r. r.memory_rank)).before

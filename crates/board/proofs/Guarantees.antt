@@ -12,6 +12,7 @@ use Rattle.feeds.specs.Fits.{Fitting}
 use Rattle.feeds.specs.Meanings.{Offered, SamePledge, View}
 use Rattle.schedule.specs.Places.{LivesIn, LoadsIn, Within, admitted, is_computing, is_loading, job, moved, names}
 use Rattle.schedule.specs.Resources.{Chosen}
+use Rattle.schedule.specs.declared.place.Slot.TheVariants.{Empty}
 use Rattle.schedule.specs.Traces.{InBounds, Trace, TwoPhase}
 use Rattle.schedule.proofs.TwoPhases.{two_phases_stand}
 use Rattle.board.specs.Chains.{Reached, served}
@@ -102,9 +103,10 @@ module _ {A B P : Type 0} (view : P → View) (r : Run A B P) (begun : New r) (f
         two_phases_stand (tasks_of rows) (comes m.before rows) (comes p.before rows) RM RC (solved rows (rows-valid (draft_in r.rating) rows refl) m p RM RC in_time)
         (λ k. (view r.pile).distance k) H trace two_phase
 
-    admits : (t : ℕ) → t < H → (k : ℕ) → k < length rows → (q : ℕ × ℕ) → offered view (at t) k ≡ Some q → placed view (at t) k ≡ job q (at t).number
+    admits : (t : ℕ) → t < H → (k : ℕ) → k < length rows → (q : ℕ × ℕ) → offered view (at t) k ≡ Some q
+        → (place (at t) k ≡ Empty) × (placed view (at t) k ≡ job q (at t).number)
     admits t h k l q e =
-        subst (λ x. admitted x (offered view (at t) k) (place (at t) k) ≡ job q x) (sym (number t (omega arith))) (in_bounds.admits t k h l q e)
+        subst (λ x. (place (at t) k ≡ Empty) × (admitted x (offered view (at t) k) (place (at t) k) ≡ job q x)) (sym (number t (omega arith))) (in_bounds.admits t k h l q e)
 
     loading : (k : ℕ) → k < length rows → LoadsIn (RM k) (at H).number (place (at H) k)
     loading k l = subst (λ x. LoadsIn (RM k) x (place (at H) k)) (sym (number H (omega arith))) (in_bounds.loading H k (omega arith) l)
@@ -129,7 +131,7 @@ module _ {A B P : Type 0} (view : P → View) (r : Run A B P) (begun : New r) (f
     pub guarantee : Guarantee view rows RM RC past s
     guarantee = record {
       admits = λ newer older v answer is k l q.
-          subst (λ x. offered view x k ≡ Some q → placed view x k ≡ job q x.number) (ap (λ z. states s z (length older)) is ∙ state_at s newer (v, answer) older)
+          subst (λ x. offered view x k ≡ Some q → (place x k ≡ Empty) × (placed view x k ≡ job q x.number)) (ap (λ z. states s z (length older)) is ∙ state_at s newer (v, answer) older)
           (admits (length older) (omega (arith, ap length is, length-append newer ((v, answer) ∷ older))) k l q);
       loading = λ k l. subst (λ x. LoadsIn (RM k) x.number (place x k)) (last_state s past) (loading k l);
       living = λ k l. subst (λ x. LivesIn (RM k + RC k) x.number (place x k)) (last_state s past) (living k l);

@@ -8,6 +8,7 @@ use Rattle.rating.specs.Ratings.{bounds_at, verdict_in}
 use Rattle.feeds.specs.Fits.{Fitting}
 use Rattle.feeds.specs.Meanings.{View}
 use Rattle.schedule.specs.Places.{LivesIn, LoadsIn, job}
+use Rattle.schedule.specs.declared.place.Slot.TheVariants.{Empty}
 use Rattle.board.specs.Chains.{Reached, served}
 use Rattle.board.specs.Runs.{Along, Choice, FirstBy, New, Stepped, memory_ranking, offered, place, placed, processor_ranking, rows_in}
 use Rattle.board.specs.declared.run.Answer.{Answer}
@@ -19,10 +20,10 @@ Past A B P = List (Run A B P × Answer)
 
 -- What holds of a run s and its past steps, where `view` tells what a pile shows, and RM and RC are the bounds of the rows.
 pub record Guarantee {A B P : Type 0} (view : P → View) (rows : List Row) (RM RC : ℕ → ℕ) (past : Past A B P) (s : Run A B P) : Type 0 where
-  -- whatever was offered to a row in a past step was admitted in that step: it became the row's job, with its memory and
-  -- processor steps and the number of the step
+  -- whatever was offered to a row in a past step found the row's place empty, and was admitted in that step: it became the
+  -- row's job, with its memory and processor steps and the number of the step
   pub admits : (newer older : Past A B P) (v : Run A B P) (answer : Answer) → past ≡ newer ++ ((v, answer) ∷ older)
-      → (k : ℕ) → k < length rows → (p : ℕ × ℕ) → offered view v k ≡ Some p → placed view v k ≡ job p v.number
+      → (k : ℕ) → k < length rows → (p : ℕ × ℕ) → offered view v k ≡ Some p → (place v k ≡ Empty) × (placed view v k ≡ job p v.number)
   -- a job that still loads is younger than RM, and one that still loads or computes is younger than RM + RC
   pub loading : (k : ℕ) → k < length rows → LoadsIn (RM k) s.number (place s k)
   pub living : (k : ℕ) → k < length rows → LivesIn (RM k + RC k) s.number (place s k)

@@ -10,7 +10,7 @@ use Rattle.schedule.specs.declared.place.Slot.TheVariants.{Empty}
 -- The example keeps the laws, its bounds solve the equations, and its first jobs end as it says.
 
 -- what holds of rows 0, 1 and 2 holds of every row
-three : (Q : ℕ → Type 0) → Q 0 → Q 1 → Q 2 → (k : ℕ) → k < 3 → Q k
+pub three : (Q : ℕ → Type 0) → Q 0 → Q 1 → Q 2 → (k : ℕ) → k < 3 → Q k
 three Q a b c zero h = a
 three Q a b c (suc zero) h = b
 three Q a b c (suc (suc zero)) h = c

@@ -20,14 +20,14 @@ module _ {x : Tasks} {m p : ℕ → ℕ → Bool} {RM RC : ℕ → ℕ} (solved 
   living t k h l = lives-before (RM k + RC k) t t (c.offer t k) (c.place t k) (live_young solved laws t k h l)
 
   -- a row to which a job is offered has rested for its distance, so the last job is gone
-  admits : (t k : ℕ) → t < H → k < x.count → (j : ℕ × ℕ) → c.offer t k ≡ Some j → held c t k ≡ job j t
+  admits : (t k : ℕ) → t < H → k < x.count → (j : ℕ × ℕ) → c.offer t k ≡ Some j → (c.place t k ≡ Empty) × (held c t k ≡ job j t)
   admits t k h l j e = go (c.place t k) refl (came_in laws t k (omega arith) l) (living t k (omega arith) l)
     where
       rested : c.rest t k ≡ 0
       rested = let w = laws.offers t k (omega arith) l in let v : Within (Some j) (c.rest t k) (x.load k) (x.compute k) = rw e at w in v.0
 
-      go : (s : Slot) → c.place t k ≡ s → Since (CameIn laws t k) s → LivesIn (RM k + RC k) t s → held c t k ≡ job j t
-      go Empty q s y = rw (e, q)
+      go : (s : Slot) → c.place t k ≡ s → Since (CameIn laws t k) s → LivesIn (RM k + RC k) t s → (c.place t k ≡ Empty) × (held c t k ≡ job j t)
+      go Empty q s y = (q, rw (e, q))
       go (Loading n d a) q s y = absurd (omega (arith, rested, s.rests, solved.in_period k l, laws.apart k l))
       go (Computing n a) q s y = absurd (omega (arith, rested, s.rests, solved.in_period k l, laws.apart k l))
 

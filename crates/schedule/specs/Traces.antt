@@ -52,12 +52,13 @@ pub record TwoPhase (x : Tasks) (m p : ℕ → ℕ → Bool) (distance : ℕ →
   pub taken : (t k : ℕ) → t < H → k < x.count → takes (c.offer t k) (c.place t k) ≡ true → c.rest (suc t) k ≡ distance k - 1
   pub others : (t k : ℕ) → t < H → k < x.count → takes (c.offer t k) (c.place t k) ≡ false → c.rest (suc t) k ≡ c.rest t k - 1
 
--- What then holds up to the horizon: a job that loads is younger than RM, a living job younger than RM + RC; no arrival
--- meets a full place; and in any L ≥ 1 consecutive steps a row gets no more than its share of either resource.
+-- What then holds up to the horizon: a job that loads is younger than RM, a living job younger than RM + RC; what is offered
+-- finds an empty place, and holds it after the arrivals; and in any L ≥ 1 consecutive steps a row gets no more than its share
+-- of either resource.
 pub record InBounds (x : Tasks) (RM RC : ℕ → ℕ) (H : ℕ) (c : Trace) : Type 0 where
   pub loading : (t k : ℕ) → t ≤ H → k < x.count → LoadsIn (RM k) t (c.place t k)
   pub living : (t k : ℕ) → t ≤ H → k < x.count → LivesIn (RM k + RC k) t (c.place t k)
-  pub admits : (t k : ℕ) → t < H → k < x.count → (p : ℕ × ℕ) → c.offer t k ≡ Some p → held c t k ≡ job p t
+  pub admits : (t k : ℕ) → t < H → k < x.count → (p : ℕ × ℕ) → c.offer t k ≡ Some p → (c.place t k ≡ Empty) × (held c t k ≡ job p t)
   pub memory_share : (k b L : ℕ) → k < x.count → 1 ≤ L → b + L ≤ H
       → window (λ t. gets (c.memory t) k) b L ≤ x.load k * ceil (L + RM k - 1) (x.period k)
   pub processor_share : (k b L : ℕ) → k < x.count → 1 ≤ L → b + L ≤ H
