@@ -3,6 +3,7 @@ use feeds::mark::Mark;
 use feeds::pledge::Pledge;
 use std::alloc::{AllocError, Global};
 use std::process::Abort;
+use std::slice::Iter;
 use std::test::Fail;
 
 mod fits;
@@ -40,36 +41,33 @@ fn takes<F: Feed>(
     steps: u32,
     wanted: &[(u32, u8, u32, u32)],
 ) -> Result<(), Fail> {
-    let mut next = 0;
+    let mut left = wanted.iter();
     for step in 0..steps {
-        next = takes_step(rt, case, feed, step, wanted, next)?;
+        takes_step(rt, case, feed, step, &mut left)?;
         feed.advance();
     }
-    assert_eq!(rt; next, wanted.len(), "case {case}");
+    assert_eq!(rt; left.next().copied(), None, "case {case}");
     Ok(())
 }
 
-// The same in one step, from a place of what is wanted on; answers the place after.
+// The same in one step, against what is left of what is wanted.
 fn takes_step<F: Feed>(
     rt: &impl Abort,
     case: u32,
     feed: &mut F,
     step: u32,
-    wanted: &[(u32, u8, u32, u32)],
-    first: usize,
-) -> Result<usize, Fail> {
-    let mut next = first;
+    left: &mut Iter<'_, (u32, u8, u32, u32)>,
+) -> Result<(), Fail> {
     for i in 0..32 {
         let k = Mark::new(i)?;
         let offer = feed.look(k);
         assert_eq!(rt; feed.take(k), offer, "case {case}");
         if let Some((memory, processor)) = offer {
             let taking = (step, i, memory, processor);
-            assert_eq!(rt; wanted.get(next).copied(), Some(taking), "case {case}");
-            next = next.saturating_add(1);
+            assert_eq!(rt; left.next().copied(), Some(taking), "case {case}");
         }
     }
-    Ok(next)
+    Ok(())
 }
 
 // What a pledge promises at a mark.

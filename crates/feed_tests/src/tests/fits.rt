@@ -1,7 +1,7 @@
 use super::N;
 use feeds::clockwork::Clockwork;
 use feeds::feed::Feed;
-use feeds::fit::{Misfit, fit};
+use feeds::fit::fit;
 use feeds::mark::Mark;
 use feeds::pledge::Pledge;
 use feeds::sheet::DataSheet;
@@ -34,11 +34,9 @@ fn task(memory: u32, compute: u32, deadline: u32, period: u32) -> Row {
 // The first n of two rows: (1, 2, 10, 10) and (2, 3, 20, 20).
 fn draft(n: u8) -> Result<Draft, Fail> {
     let mut draft = Draft::new();
-    if n > 0 {
-        draft.add(task(1, 2, 10, 10))?;
-    }
-    if n > 1 {
-        draft.add(task(2, 3, 20, 20))?;
+    let rows = [task(1, 2, 10, 10), task(2, 3, 20, 20)];
+    for row in rows.iter().take(n as usize) {
+        draft.add(*row)?;
     }
     Ok(draft)
 }
@@ -48,10 +46,7 @@ fn told<P: Pledge>(n: u8, pledge: &P) -> Result<(u8, u8, u8), Fail> {
     let rating = close(draft(n)?, ByDeadline, ByDeadline);
     match fit(&rating, pledge) {
         Ok(()) => Ok((0, 0, 0)),
-        Err(misfit) => {
-            let Misfit { row, letter } = misfit;
-            Ok((misfit.number(), row, letter))
-        }
+        Err(misfit) => Ok((misfit.number(), misfit.row, misfit.letter)),
     }
 }
 
@@ -117,40 +112,20 @@ fn clockworks(rt: HostRuntime) -> Result<(), Fail> {
     Ok(())
 }
 
-// What is told of a gate at the periods, but for the second, over a feed.
-fn told_gated<F: Feed + Drop>(below: F, second: u32) -> Result<(u8, u8, u8), Fail> {
+// A gate at the periods, but for the second, over a feed.
+fn gated<F: Feed + Drop>(below: F, second: u32) -> Result<Gate<F>, Fail> {
     let mut gate = Gate::new(below);
     gate.set(Mark::new(0)?, 10)?;
     gate.set(Mark::new(1)?, second)?;
-    told(2, &gate)
+    Ok(gate)
 }
 
-// What is told of a cut-off at the costs, but for the second processor cost, over a feed.
-fn told_cut<F: Feed + Drop>(below: F, processor: u32) -> Result<(u8, u8, u8), Fail> {
+// A cut-off at the costs, but for the second processor cost, over a feed.
+fn cut<F: Feed + Drop>(below: F, processor: u32) -> Result<CutOff<F>, Fail> {
     let mut cut = CutOff::new(below);
     cut.set(Mark::new(0)?, 1, 2)?;
     cut.set(Mark::new(1)?, 2, processor)?;
-    told(2, &cut)
-}
-
-// The gate over the cut-off, and the cut-off over the gate.
-fn told_piled<F: Feed + Drop>(
-    feed: F,
-    second: u32,
-    processor: u32,
-    gate_on_top: bool,
-) -> Result<(u8, u8, u8), Fail> {
-    if gate_on_top {
-        let mut cut = CutOff::new(feed);
-        cut.set(Mark::new(0)?, 1, 2)?;
-        cut.set(Mark::new(1)?, 2, processor)?;
-        told_gated(cut, second)
-    } else {
-        let mut gate = Gate::new(feed);
-        gate.set(Mark::new(0)?, 10)?;
-        gate.set(Mark::new(1)?, second)?;
-        told_cut(gate, processor)
-    }
+    Ok(cut)
 }
 
 // A gate at the periods and a cut-off at the costs make any feed fit, whichever is on top; the letter is that of the top.
@@ -164,16 +139,12 @@ fn piles(rt: HostRuntime) -> Result<(), Fail> {
         (20, 4, (62, 1, b'G'), (62, 1, b'C')),
     ];
     for (distance, processor, gate_on_top, cut_on_top) in cases {
-        assert_eq!(rt;
-            told_piled(List::new(b""), distance, processor, true)?,
-            gate_on_top
-        );
-        assert_eq!(rt;
-            told_piled(List::new(b""), distance, processor, false)?,
-            cut_on_top
-        );
+        let gate_over_cut = gated(cut(List::new(b""), processor)?, distance)?;
+        let cut_over_gate = cut(gated(List::new(b""), distance)?, processor)?;
+        assert_eq!(rt; told(2, &gate_over_cut)?, gate_on_top);
+        assert_eq!(rt; told(2, &cut_over_gate)?, cut_on_top);
     }
-    assert_eq!(rt; told_gated(List::new(b""), 20)?, (62, 0, b'G'));
-    assert_eq!(rt; told_cut(List::new(b""), 3)?, (62, 0, b'C'));
+    assert_eq!(rt; told(2, &gated(List::new(b""), 20)?)?, (62, 0, b'G'));
+    assert_eq!(rt; told(2, &cut(List::new(b""), 3)?)?, (62, 0, b'C'));
     Ok(())
 }

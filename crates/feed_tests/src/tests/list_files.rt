@@ -80,24 +80,15 @@ fn cut_short(rt: HostRuntime) -> Result<(), Fail> {
         let mut bytes = list_of(rt.alloc(), &[(0, 1, 1, 4), (1, 2, 2, 4), (2, 3, 3, 4)])?;
         bytes.truncate(48 - missing as usize);
         let mut list = List::new(&bytes);
-        if missing == 0 {
-            assert_eq!(rt; told(check_list(&bytes)), (0, Some(3)));
-            takes(
-                &rt,
-                missing,
-                &mut list,
-                4,
-                &[(0, 4, 1, 1), (1, 4, 2, 2), (2, 4, 3, 3)],
-            )?;
-        } else {
-            let wanted = if missing == 16 {
-                (0, Some(2))
-            } else {
-                (41, None)
-            };
-            assert_eq!(rt; told(check_list(&bytes)), wanted, "{}", missing);
-            takes(&rt, missing, &mut list, 4, &[(0, 4, 1, 1), (1, 4, 2, 2)])?;
-        }
+        let wanted = match missing {
+            0 => (0, Some(3)),
+            16 => (0, Some(2)),
+            _ => (41, None),
+        };
+        assert_eq!(rt; told(check_list(&bytes)), wanted, "{}", missing);
+        let taken = [(0, 4, 1, 1), (1, 4, 2, 2), (2, 4, 3, 3)];
+        let whole = if missing == 0 { 3 } else { 2 };
+        takes(&rt, missing, &mut list, 4, &taken[..whole])?;
     }
     Ok(())
 }

@@ -12,10 +12,7 @@ use std::test::Fail;
 
 // The number of a setting's fault, 0 for none.
 fn told(res: Result<(), SettingFault>) -> u8 {
-    match res {
-        Ok(()) => 0,
-        Err(fault) => fault.number(),
-    }
+    res.err().map_or(0, |fault| fault.number())
 }
 
 // Only numbers up to 31 are marks.
