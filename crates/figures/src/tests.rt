@@ -50,8 +50,8 @@ fn too_costly() -> Row {
 // A draft of the first n rows.
 fn filled(n: u8) -> Result<Draft, EditFault> {
     let mut draft = Draft::new();
-    for i in 0..n {
-        draft.add(nth(i))?;
+    for row in (0..n).map(nth) {
+        draft.add(row)?;
     }
     Ok(draft)
 }

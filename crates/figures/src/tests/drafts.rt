@@ -6,18 +6,12 @@ use std::test::Fail;
 
 // The number of an edit's fault, 0 for none.
 fn edit_fault(res: Result<(), EditFault>) -> u8 {
-    match res {
-        Ok(()) => 0,
-        Err(fault) => fault.number(),
-    }
+    res.err().map_or(0, |fault| fault.number())
 }
 
 // The number of a draft's fault, 0 for none.
 fn draft_fault(res: Result<Row, DraftFault>) -> u8 {
-    match res {
-        Ok(_) => 0,
-        Err(fault) => fault.number(),
-    }
+    res.err().map_or(0, |fault| fault.number())
 }
 
 // A row is added up to 32; a full draft is told before the row's own fault.
@@ -60,20 +54,17 @@ fn change(rt: HostRuntime) -> Result<(), Fail> {
         let mut draft = filled(n)?;
         let row = if valid { nth(50) } else { too_costly() };
         assert_eq!(rt; edit_fault(draft.change(i, row)), fault, "{i} of {n}");
-        assert!(rt; is_changed(&draft, n, i, fault == 0), "{i} of {n}");
+        let wanted = |k| nth(if fault == 0 && k == i { 50 } else { k });
+        assert!(rt; has_rows(&draft, n, wanted), "{i} of {n}");
     }
     Ok(())
 }
 
-// Whether a draft has the first n rows, with the fiftieth in the place of row i if that was changed.
-fn is_changed(draft: &Draft, n: u8, i: u8, changed: bool) -> bool {
-    for k in 0..n {
-        let wanted = if changed && k == i { nth(50) } else { nth(k) };
-        if draft.row(k) != Ok(wanted) {
-            return false;
-        }
-    }
-    draft.count() == n
+// Whether a draft has n rows, and at each number the row that is wanted there.
+fn has_rows<W: Fn(u8) -> Row>(draft: &Draft, n: u8, wanted: W) -> bool
+    requires { (f : _) (x : _) → W.pre f x }
+{
+    draft.count() == n && (0..n).all(|k| draft.row(k) == Ok(wanted(k)))
 }
 
 // A row is taken out, and the later ones move down by one.
@@ -97,23 +88,14 @@ fn remove(rt: HostRuntime) -> Result<(), Fail> {
         let gone = draft.remove(i);
         assert_eq!(rt; draft_fault(gone), fault, "{i} of {n}");
         if fault == 0 {
-            assert!(rt; gone == Ok(nth(i)) && lacks(&draft, n - 1, i), "{i} of {n}");
+            let wanted = |k: u8| nth(if k < i { k } else { k.saturating_add(1) });
+            assert!(rt; gone == Ok(nth(i)), "{i} of {n}");
+            assert!(rt; has_rows(&draft, n - 1, wanted), "{i} of {n}");
         } else {
             assert!(rt; draft.rows() == filled(n)?.rows(), "{i} of {n}");
         }
     }
     Ok(())
-}
-
-// Whether a draft has n rows: those below i as they were, and in place of each later one the next.
-fn lacks(draft: &Draft, n: u8, i: u8) -> bool {
-    for k in 0..n {
-        let wanted = if k < i { nth(k) } else { nth(k + 1) };
-        if draft.row(k) != Ok(wanted) {
-            return false;
-        }
-    }
-    draft.count() == n
 }
 
 // A row is read by its number, which alters nothing.

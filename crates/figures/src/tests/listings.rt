@@ -14,23 +14,12 @@ const ACCEPTED: &[u8] =
 
 // Whether every byte is 7, as the buffers of these tests are at first.
 fn untouched(bytes: &[u8]) -> bool {
-    for byte in bytes {
-        if *byte != 7 {
-            return false;
-        }
-    }
-    true
+    bytes.iter().all(|byte| *byte == 7)
 }
 
 // Whether a listing answered the text's length, wrote the text and left the later bytes.
 fn shows(answer: Result<usize, ListingFault>, out: &[u8], text: &[u8]) -> bool {
-    match answer {
-        Ok(n) => n == text.len()
-            && n <= out.len()
-            && &out[0..n] == text
-            && untouched(&out[n..out.len()]),
-        Err(_) => false,
-    }
+    answer == Ok(text.len()) && out.strip_prefix(text).is_some_and(untouched)
 }
 
 // What program `rate` shows of a book.
@@ -51,10 +40,7 @@ fn lists(book: &[u8], text: &[u8]) -> bool {
 // Whether a buffer of 1,291 bytes is refused with 63, and stays as it was.
 fn refuses(book: &[u8]) -> bool {
     let mut out = [7; 1291];
-    match rated(book, &mut out) {
-        Ok(_) => false,
-        Err(fault) => fault.number() == 63 && untouched(&out),
-    }
+    rated(book, &mut out).is_err_and(|fault| fault.number() == 63) && untouched(&out)
 }
 
 // 1,291 bytes are too few for either listing, whatever the text; 1,292 are enough.

@@ -4,10 +4,7 @@ use std::process::Abort;
 
 // The number of a row's first fault, 0 for none.
 fn fault_of(row: Row) -> u8 {
-    match row.check() {
-        Ok(()) => 0,
-        Err(fault) => fault.number(),
-    }
+    row.check().err().map_or(0, |fault| fault.number())
 }
 
 // Figures of a row, and its fault.
