@@ -27,7 +27,7 @@ word_text (Err fault) = refusal_text (check_refusal fault) ++ line_end
 abbrev pub line_text : Taking → List ℕ
 line_text x =
     decimal x.step
-    ++ (codes " " ++ (decimal (x.mark / 10) ++ (decimal (x.mark % 10) ++ (codes " " ++ (decimal x.memory ++ (codes " " ++ (decimal x.processor ++ line_end)))))))
+    ++ (codes " " ++ ((decimal (x.mark / 10) ++ decimal (x.mark % 10)) ++ (codes " " ++ (decimal x.memory ++ (codes " " ++ (decimal x.processor ++ line_end))))))
 
 abbrev pub lines_text : List Taking → List ℕ
 lines_text [] = []

@@ -32,9 +32,7 @@ fn put_taking(text: &mut String, taking: Taking) -> Result<(), AllocError>
         memory,
         processor,
     } = taking;
-    let tens = mark / 10;
-    let ones = mark % 10;
-    writeln!(text, "{step} {tens}{ones} {memory} {processor}")
+    writeln!(text, "{step} {mark:02} {memory} {processor}")
 }
 
 fn put_takings(text: &mut String, takings: &[Taking]) -> Result<(), AllocError>
