@@ -73,10 +73,4 @@ first-at bound (x ∷ xs) k e = go (bound x) refl e (first-at bound xs k)
 
 -- the first number without a value is one of the list, so it is below what bounds the list
 pub first_below : (bound : ℕ → Option ℕ) (ks : List ℕ) (n : ℕ) → ((p : ℕ) → p < length ks → get_or ks p 0 < n) → (k : ℕ) → first_none bound ks ≡ Some k → k < n
-unfolding first_none
-first_below bound [] n small k e = absurd (let z : ◌≡◌ {A = ℕ} 0 1 = cc in omega arith)
-first_below bound (j ∷ ks) n small k e = go (bound j) e (first_below bound ks n (λ p h. small (suc p) (omega arith)) k)
-  where
-    go : (o : Option ℕ) → or_else o j (first_none bound ks) ≡ Some k → (first_none bound ks ≡ Some k → k < n) → k < n
-    go None f later = let same : j ≡ k = cc in omega (arith, small 0 (omega arith))
-    go (Some x) f later = later f
+first_below bound ks n small k e = let r = first-at bound ks k e in omega (arith, r.here, small r.place r.within)
