@@ -1,6 +1,5 @@
-use Rattle.std.proofs.Common.{◌≡◌, ℕ, ◌+◌, ◌-◌, ◌*◌, ◌^◌, ◌<◌, ◌≤◌, true, List, [], ◌∷◌, ◌++◌, length, get_or, take, set, sym, ap, ◌∙◌, subst, inl, inr, mul-le-mul, arith, length-take}
-use Rattle.std.proofs.lemmas.List.{get_or-set_other, get_or-set_same, get_or-take, length-take-le, take_more}
-use Rattle.std.proofs.lemmas.Bool.{cases_eq}
+use Rattle.std.proofs.Common.{◌≡◌, ℕ, zero, suc, ◌+◌, ◌*◌, ◌^◌, ◌<◌, ◌≤◌, true, List, [], ◌∷◌, ◌++◌, length, get_or, take, sym, ap, ◌∙◌, subst, mul-le-mul, arith}
+use Rattle.std.proofs.lemmas.List.{take_more}
 use Rattle.std.proofs.lemmas.Bool.Decides.{nat_tests}
 use Rattle.rating.specs.Demands.{sources_of}
 use Rattle.rating.specs.Quotients.{ceil}
@@ -29,45 +28,25 @@ sound-true s h = grind (arith, nat_tests)
 pub true_sound : (s : Source) → is_sound s ≡ true → Sound s
 true_sound s e = record { cheap = grind (arith, nat_tests); apart = grind (arith, nat_tests) }
 
--- a demand has as many sources as it counts
-pub length-sources : (d : Demand) → length (sources_of d) ≡ d.count
-length-sources d = length-take-le d.count d.sources (omega (arith, d.few, d.full))
+-- a sound source behind those that are sound
+pub sound-added : (xs : List Source) (s : Source) → ((i : ℕ) → i < length xs → is_sound (get_or xs i blank) ≡ true) → Sound s
+    → (i : ℕ) → i < length (xs ++ s ∷ []) → is_sound (get_or (xs ++ s ∷ []) i blank) ≡ true
+sound-added [] s sound h zero low = sound-true s h
+sound-added [] s sound h (suc i) low = absurd (omega arith)
+sound-added (x ∷ xs) s sound h zero low = sound 0 (omega arith)
+sound-added (x ∷ xs) s sound h (suc i) low = sound-added xs s (λ j g. sound (suc j) (omega arith)) h i (omega arith)
 
--- a sound source behind the n that are sound
-pub sound-added : (xs : List Source) (n : ℕ) (s : Source) → n < length xs → ((i : ℕ) → i < n → is_sound (get_or xs i blank) ≡ true) → Sound s
-    → (i : ℕ) → i < n + 1 → is_sound (get_or (set xs n s) i blank) ≡ true
-sound-added xs n s room sound h i low =
-    elim (cases_eq i n) [
-      | inl same ↦ rw same (rw (get_or-set_same xs n s blank room) (sound-true s h))
-      | inr other ↦ rw (get_or-set_other xs n i s blank other) (sound i (omega (arith, other)))
-    ]
+-- A loop over a demand's sources, which go by another name there.
+module _ (d : Demand) (xs : List Source) (lent : xs ≡ sources_of d) (i : ℕ) (within : i < length xs) where
+  pub sound_there : Sound (get_or xs i blank)
+  sound_there = rw lent (true_sound (get_or (sources_of d) i blank) (d.sound i (subst (λ ys. i < length ys) lent within)))
 
--- the part of the table that a loop goes over, as the code cuts it out
-abbrev part : Demand → List Source
-part d = take (d.count - 0) d.sources
-
--- what a loop knows at a place of that part
-pub record Place (d : Demand) (i : ℕ) : Type 0 where
-  pub within : i < length d.sources
-  pub few : i < 32
-  pub same : get_or (part d) i blank ≡ get_or d.sources i blank
-  pub cheap : (get_or (part d) i blank).cost ≤ 1000000
-  pub apart : 1 ≤ (get_or (part d) i blank).period
-
-pub place : (d : Demand) (i : ℕ) → i < length (part d) → Place d i
-place d i h =
-    let low : i < d.count = omega (arith, length-take (d.count - 0) d.sources)
-    in let same : get_or (part d) i blank ≡ get_or d.sources i blank = get_or-take (d.count - 0) d.sources i blank (omega arith)
-    in let sound : Sound (get_or (part d) i blank) = subst Sound (sym same) (true_sound (get_or d.sources i blank) (d.sound i low))
-    in record { within = omega (arith, d.few, d.full); few = omega (arith, d.few); same = same; cheap = sound.cheap; apart = sound.apart }
-
--- what the source at a place asks is what one more source adds
-pub place-asks : (d : Demand) (i w jobs : ℕ) → Place d i → jobs ≡ ceil (w + (get_or (part d) i blank).delay) (get_or (part d) i blank).period
-    → asked (take (i + 1) d.sources) w ≡ asked (take i d.sources) w + jobs * (get_or (part d) i blank).cost
-place-asks d i w jobs at e =
-    let here : asks (get_or d.sources i blank) w ≡ asks (get_or (part d) i blank) w = ap (λ s. asks s w) (sym at.same)
-    in let count : jobs * (get_or (part d) i blank).cost ≡ asks (get_or (part d) i blank) w = ap (λ n. n * (get_or (part d) i blank).cost) e
-    in omega (arith, asked-more d.sources i blank w at.within, here, count)
+  -- what the source there asks is what one more source adds
+  pub asked-there : (w jobs : ℕ) → jobs ≡ ceil (w + (get_or xs i blank).delay) (get_or xs i blank).period
+      → asked (take (i + 1) (sources_of d)) w ≡ asked (take i (sources_of d)) w + jobs * (get_or xs i blank).cost
+  asked-there w jobs e =
+      subst (λ ys. asked (take (i + 1) ys) w ≡ asked (take i ys) w + jobs * (get_or xs i blank).cost) lent
+      (asked-more xs i blank w within ∙ ap (λ n. asked (take i xs) w + n * (get_or xs i blank).cost) (sym e))
 
 -- what one source asks is far from 64 bits
 pub jobs_small : (jobs cost : ℕ) → jobs < 2 ^ 33 → cost ≤ 1000000 → jobs * cost ≤ 2 ^ 33 * 1000000

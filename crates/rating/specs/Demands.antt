@@ -1,4 +1,4 @@
-use Rattle.std.specs.Prelude.{◌+◌, List, take}
+use Rattle.std.specs.Prelude.{◌+◌, List}
 use Rattle.std.proofs.Common.{arith}
 use Rattle.rating.specs.Curves.{Rising}
 use Rattle.rating.specs.Sources.{asked, asked-rises}
@@ -7,7 +7,7 @@ use Rattle.rating.specs.declared.demand.Source.{Source}
 
 -- the sources that a demand has taken up, in the order in which they came
 abbrev pub sources_of : Demand → List Source
-sources_of d = take d.count d.sources
+sources_of d = d.sources.items
 
 -- the own cost, once, and what the sources ask
 abbrev pub demanded : Demand → Rising

@@ -5,6 +5,7 @@ ghost use Rattle.rating.specs.Sources.{Sound};
 use super::{Demand, Source};
 use crate::curve::Curve;
 use crate::quotient::rounded_up;
+use arrayvec::ArrayVec;
 
 impl Demand {
     // Nothing is asked yet.
@@ -12,15 +13,9 @@ impl Demand {
         ensures own { result.own ≡ 0 }
         ensures sources { sources_of result ≡ [] }
     {
-        let blank = Source {
-            cost: 0,
-            period: 0,
-            delay: 0,
-        };
         Demand {
             own: 0,
-            sources: [blank; 32],
-            count: 0,
+            sources: ArrayVec::new(),
         }
     }
 
@@ -39,8 +34,7 @@ impl Demand {
         ensures own { self.new.own ≡ self.old.own }
         ensures sources { sources_of self.new ≡ sources_of self.old ++ source ∷ [] }
     {
-        self.sources[self.count as usize] = source;
-        self.count += 1;
+        self.sources.push(source);
     }
 }
 
@@ -50,7 +44,7 @@ impl Curve for Demand {
     // The own cost, and one division for each source.
     fn ask(&self, w: u32) -> u64 {
         let mut sum = self.own as u64;
-        for source in &self.sources[0..self.count as usize] {
+        for source in self.sources.as_slice() {
             let jobs = rounded_up(w as u64 + source.delay as u64, source.period);
             sum += jobs * source.cost as u64;
         }
