@@ -3,7 +3,7 @@ use Rattle.listing.specs.Listings.{answer_of, buffer_after, fault_text, rating_t
 use Rattle.listing.specs.declared.fault.ListingFault.{ListingFault}
 use Rattle.rating.specs.Bounds.{is_accepted}
 use Rattle.rating.specs.Closing.{Accepts, BoundsRead, LateBy}
-use Rattle.rating.specs.Orders.{Before, by_figure}
+use Rattle.rating.specs.Orders.{by_memory_rank, by_processor_rank}
 use Rattle.rating.specs.Ratings.{bounds_at, draft_in, verdict_in}
 use Rattle.rating.specs.declared.order.ByMemoryRank.{ByMemoryRank}
 use Rattle.rating.specs.declared.order.ByProcessorRank.{ByProcessorRank}
@@ -11,12 +11,6 @@ use Rattle.rating.specs.declared.rating.Rating.{Rating}
 use Rattle.rows.specs.Books.{first_rows}
 use Rattle.rows.specs.Drafts.{rows_of}
 use Rattle.rows.specs.declared.fault.LoadFault.{LoadFault}
-
-abbrev pub by_memory_rank : Before
-by_memory_rank = (by_figure (λ r. r.memory_rank)).before
-
-abbrev pub by_processor_rank : Before
-by_processor_rank = (by_figure (λ r. r.processor_rank)).before
 
 -- The buffer shows a rating of the book's rows under the two rank orders, and the rating is right: accepted exactly when
 -- both equations of every row have least solutions in time, with these as bounds, and late by the first row without one.

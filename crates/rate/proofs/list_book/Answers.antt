@@ -1,10 +1,11 @@
 use Rattle.std.proofs.Common.{◌≡◌, ◌/◌, true, ◌++◌, length, Decides, sym, ap, ◌∙◌, subst}
 use Rattle.rating.specs.Bounds.{is_accepted}
 use Rattle.rating.specs.Closing.{Accepts, BoundsRead, LateBy}
+use Rattle.rating.specs.Orders.{by_memory_rank, by_processor_rank}
 use Rattle.rating.specs.Ratings.{bounds_at, verdict_in}
 use Rattle.rows.specs.Books.{first_rows, load_of}
 use Rattle.rows.specs.Drafts.{rows_of}
-use Rattle.rate.specs.Listed.{Shows, by_memory_rank, by_processor_rank}
+use Rattle.rate.specs.Listed.{Shows}
 use Rattle.rate.proofs.list_book.Goals as goal
 
 pub returns-in-Ok-clause-shows : goal.returns-in-Ok-clause-shows
