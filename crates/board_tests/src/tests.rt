@@ -73,11 +73,11 @@ fn first_responses<A, B, P: Feed>(
 ) -> Result<[u32; 32], StepFault> {
     let mut seen = [0; 32];
     for _ in 0..steps {
-        if let Some((k, response)) = run.step()?.finished {
-            let i = k as usize;
-            if i < 32 && seen[i] == 0 {
-                seen[i] = response;
-            }
+        if let Some((k, response)) = run.step()?.finished
+            && let Some(first) = seen.get_mut(k as usize)
+            && *first == 0
+        {
+            *first = response;
         }
     }
     Ok(seen)
@@ -94,10 +94,7 @@ fn regular() -> Result<Clockwork, Fail> {
 
 // The character of a row in a time line.
 fn shown(row: Option<u8>) -> u8 {
-    match row {
-        Some(k) => b'0'.saturating_add(k),
-        None => b'.',
-    }
+    row.map_or(b'.', |k| b'0'.saturating_add(k))
 }
 
 // Whether the next steps of a run show these time lines, one for each resource: a character for each step, the row below
@@ -111,7 +108,7 @@ fn shows<A, B, P: Feed>(
 ) -> Result<(), Fail> {
     assert_eq!(rt; memory.len(), processor.len());
     let mut ends = finished.iter();
-    for (m, p) in memory.iter().zip(processor.iter()) {
+    for (m, p) in memory.iter().zip(processor) {
         let answer = run.step()?;
         let served = (shown(answer.memory), shown(answer.processor));
         assert_eq!(rt; served, (*m, *p), "{}", answer.step);

@@ -2,8 +2,8 @@ use super::TAGS;
 use dice::Dice;
 use feeds::clockwork::Clockwork;
 use feeds::feed::Feed;
-use judge::watch;
-use limits::Figure;
+use judge::Judge;
+use limits::{Figure, limits};
 use lists::list::List;
 use piles::{arrivals, fewer, fitted, shut};
 use rating::order::{ByDeadline, ByMemoryRank, ByPeriod, ByProcessorRank, Order};
@@ -51,119 +51,119 @@ fn draft(dice: &mut Dice) -> Result<Draft, EditFault> {
     Ok(draft)
 }
 
-// What drawing finds: how many drafts are accepted, and the sum of all their bounds.
-#[derive(Drop)]
-struct Tally {
-    accepted: u32,
-    bounds: u32,
-}
-
 // Every arrival is admitted in the step that it is offered in, no job is too old and no share too large, in runs over
 // piles that fit an accepted rating. How many drafts are accepted, and the sum of their bounds, were computed apart from
 // this repository's code, by trying every length.
 #[test]
 fn guarantee(rt: HostRuntime) -> Result<(), Fail> {
-    let mut tally = Tally {
-        accepted: 0,
-        bounds: 0,
-    };
+    let mut accepted: u32 = 0;
+    let mut sum: u32 = 0;
     for seed in 0..400 {
-        drawn(&rt, rt.alloc(), seed, &mut tally)?;
+        if let Some(bounds) = drawn(&rt, rt.alloc(), seed)? {
+            accepted = accepted.saturating_add(1);
+            sum = sum.saturating_add(bounds);
+        }
     }
-    assert_eq!(rt; (tally.accepted, tally.bounds), (205, 122_993));
+    assert_eq!(rt; (accepted, sum), (205, 122_993));
     Ok(())
 }
 
-// Draws a draft, and closes and runs it under two of the orders.
-fn drawn(rt: &impl Abort, heap: Global, seed: u32, tally: &mut Tally) -> Result<(), Fail> {
+// Draws a draft, and closes and runs it under two of the orders. The sum of its bounds, none if it is late.
+fn drawn(rt: &impl Abort, heap: Global, seed: u32) -> Result<Option<u32>, Fail> {
     let mut dice = Dice::new(seed);
     let draft = draft(&mut dice)?;
+    let trial = Trial {
+        rt,
+        heap,
+        seed,
+        dice,
+    };
     let by_memory = (ByMemoryRank, Figure::MemoryRank);
     let by_processor = (ByProcessorRank, Figure::ProcessorRank);
     let by_deadline = (ByDeadline, Figure::Deadline);
     let by_period = (ByPeriod, Figure::Period);
-    let bounds = match seed % 4 {
-        0 => rated(rt, heap, seed, dice, draft, by_memory, by_processor)?,
-        1 => rated(rt, heap, seed, dice, draft, by_deadline, by_period)?,
-        2 => rated(rt, heap, seed, dice, draft, by_period, by_memory)?,
-        _ => rated(rt, heap, seed, dice, draft, by_processor, by_deadline)?,
-    };
-    if bounds > 0 {
-        tally.accepted = tally.accepted.saturating_add(1);
-        tally.bounds = tally.bounds.saturating_add(bounds);
+    match seed % 4 {
+        0 => trial.rated(draft, by_memory, by_processor),
+        1 => trial.rated(draft, by_deadline, by_period),
+        2 => trial.rated(draft, by_period, by_memory),
+        _ => trial.rated(draft, by_processor, by_deadline),
     }
-    Ok(())
 }
 
-// The sum of the bounds of a draft, 0 if it is late. An accepted one is run over each kind of pile.
-fn rated<A: Order + Drop, B: Order + Drop>(
-    rt: &impl Abort,
+// What the runs of one draft share: who is told of a failure, the heap, the seed, and the dice after the draft was drawn.
+#[derive(Drop)]
+struct Trial<'a, R> {
+    rt: &'a R,
     heap: Global,
     seed: u32,
     dice: Dice,
-    draft: Draft,
-    memory: (A, Figure),
-    processor: (B, Figure),
-) -> Result<u32, Fail> {
-    let (memory_order, memory_figure) = memory;
-    let (processor_order, processor_figure) = processor;
-    let figures = (memory_figure, processor_figure);
-    let rating = close(draft, memory_order, processor_order);
-    let bounds = bounds_of(&rating);
-    if rating.verdict() != Verdict::Accepted {
-        return Ok(bounds);
-    }
-    let full = (
-        Clockwork::at_full_cost(&rating),
-        Clockwork::at_full_cost(&rating),
-    );
-    let rating = watch(rt, heap, seed, rating, full, figures)?;
-    let less = (fewer(&rating, dice)?, fewer(&rating, dice)?);
-    let rating = watch(rt, heap, seed, rating, less, figures)?;
-    let bytes = arrivals(heap, &rating, dice)?;
-    let lists = (List::new(&bytes), List::new(&bytes));
-    let rating = layered(rt, heap, seed, rating, lists, figures)?;
-    let lists = (List::new(&bytes), List::new(&bytes));
-    let rating = deep(rt, heap, seed, rating, lists, figures, dice)?;
-    assert_eq!(rt; bounds_of(&rating), bounds, "seed {seed}");
-    Ok(bounds)
 }
 
-fn bounds_of<A, B>(rating: &Rating<A, B>) -> u32 {
-    let mut sum: u32 = 0;
-    for k in 0..32 {
-        if let Some((load, rest)) = rating.bounds(k) {
-            sum = sum.saturating_add(load).saturating_add(rest);
+impl<R: Abort> Trial<'_, R> {
+    // The sum of the bounds of a draft, none if it is late. An accepted one is run over each kind of pile.
+    fn rated<A: Order + Drop, B: Order + Drop>(
+        &self,
+        draft: Draft,
+        memory: (A, Figure),
+        processor: (B, Figure),
+    ) -> Result<Option<u32>, Fail> {
+        let rating = close(draft, memory.0, processor.0);
+        if rating.verdict() != Verdict::Accepted {
+            return Ok(None);
         }
+        let judge = Judge {
+            rt: self.rt,
+            heap: self.heap,
+            seed: self.seed,
+            limits: limits(&rating, (memory.1, processor.1))?,
+        };
+        let bounds = bounds_of(&rating);
+        let rating = self.run(&judge, rating)?;
+        let (rt, seed) = (self.rt, self.seed);
+        assert_eq!(rt; bounds_of(&rating), bounds, "seed {seed}");
+        Ok(Some(bounds))
     }
-    sum
+
+    // Runs a rating over each kind of pile.
+    fn run<A: Drop, B: Drop>(
+        &self,
+        judge: &Judge<'_, R>,
+        rating: Rating<A, B>,
+    ) -> Result<Rating<A, B>, Fail> {
+        let full = (
+            Clockwork::at_full_cost(&rating),
+            Clockwork::at_full_cost(&rating),
+        );
+        let rating = judge.watch(rating, full)?;
+        let less = (fewer(&rating, self.dice)?, fewer(&rating, self.dice)?);
+        let rating = judge.watch(rating, less)?;
+        let bytes = arrivals(self.heap, &rating, self.dice)?;
+        let lists = (List::new(&bytes), List::new(&bytes));
+        let rating = layered(judge, rating, lists)?;
+        // the same with a gate of other distances below them
+        let gates = (
+            shut(List::new(&bytes), self.dice)?,
+            shut(List::new(&bytes), self.dice)?,
+        );
+        layered(judge, rating, gates)
+    }
 }
 
 // Runs a rating over a feed under a cut-off and a gate, so that it fits.
-fn layered<A: Drop, B: Drop, F: Feed + Drop>(
-    rt: &impl Abort,
-    heap: Global,
-    seed: u32,
+fn layered<R: Abort, A: Drop, B: Drop, F: Feed + Drop>(
+    judge: &Judge<'_, R>,
     rating: Rating<A, B>,
     feeds: (F, F),
-    figures: (Figure, Figure),
 ) -> Result<Rating<A, B>, Fail> {
     let (feed, twin) = feeds;
     let piles = (fitted(feed, &rating)?, fitted(twin, &rating)?);
-    watch(rt, heap, seed, rating, piles, figures)
+    judge.watch(rating, piles)
 }
 
-// The same with a gate of other distances below them.
-fn deep<A: Drop, B: Drop, F: Feed + Drop>(
-    rt: &impl Abort,
-    heap: Global,
-    seed: u32,
-    rating: Rating<A, B>,
-    feeds: (F, F),
-    figures: (Figure, Figure),
-    dice: Dice,
-) -> Result<Rating<A, B>, Fail> {
-    let (feed, twin) = feeds;
-    let gates = (shut(feed, dice)?, shut(twin, dice)?);
-    layered(rt, heap, seed, rating, gates, figures)
+fn bounds_of<A, B>(rating: &Rating<A, B>) -> u32 {
+    (0..32)
+        .filter_map(|k| rating.bounds(k))
+        .fold(0u32, |sum, (load, rest)| {
+            sum.saturating_add(load).saturating_add(rest)
+        })
 }

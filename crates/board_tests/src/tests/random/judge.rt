@@ -1,4 +1,4 @@
-use super::limits::{Figure, Limit, limits};
+use super::limits::Limit;
 use board::run::{Answer, Run, Slot};
 use feeds::feed::Feed;
 use feeds::fit::fit;
@@ -12,73 +12,136 @@ use std::test::*;
 // How many steps each run takes.
 const STEPS: u32 = 1_000;
 
-// Runs a rating over a pile and judges each step by the four rules, where a second pile like it tells what is offered;
-// then judges the shares. Gives the rating back.
-pub(super) fn watch<A: Drop, B: Drop, P: Feed + Drop>(
-    rt: &impl Abort,
-    heap: Global,
-    seed: u32,
-    rating: Rating<A, B>,
-    piles: (P, P),
-    figures: (Figure, Figure),
-) -> Result<Rating<A, B>, Fail> {
-    let (pile, mut twin) = piles;
-    fit(&rating, &pile)?;
-    let limits = limits(&rating, figures)?;
-    let mut run = Run::begin(rating, pile);
-    let mut answers = Vec::new(heap);
-    for _ in 0..STEPS {
-        answers.push(judged(rt, seed, &mut run, &mut twin, &limits)?)?;
-    }
-    shares(rt, seed, &answers, &limits)?;
-    Ok(run.end())
+// Judges the runs of one rating by the limits of its rows, and names the seed that the rating was drawn from.
+#[derive(Drop)]
+pub(super) struct Judge<'a, R> {
+    pub(super) rt: &'a R,
+    pub(super) heap: Global,
+    pub(super) seed: u32,
+    pub(super) limits: [Limit; 32],
 }
 
-// Takes a step, and compares its answer and what it leaves with the rules.
-fn judged<A, B, P: Feed>(
-    rt: &impl Abort,
-    seed: u32,
-    run: &mut Run<A, B, P>,
-    twin: &mut P,
-    limits: &[Limit; 32],
-) -> Result<Answer, Fail> {
-    let step = run.number();
-    let places = entered(rt, seed, run, twin)?;
-    let memory = chosen(Phase::Memory, &places, limits);
-    let processor = chosen(Phase::Processor, &places, limits);
-    let finished = ending(processor, &places, step);
-    let wanted = Answer {
-        step,
-        memory,
-        processor,
-        finished,
-    };
-    let answer = run.step()?;
-    assert_eq!(rt; answer, wanted, "seed {seed}");
-    twin.advance();
-    assert_eq!(rt; run.number(), step.saturating_add(1), "seed {seed}");
-    in_time(rt, seed, finished, limits)?;
-    left(rt, seed, run, &places, memory, processor, limits)?;
-    Ok(answer)
-}
-
-// The places after the first rule. An arrival that comes to a place that isn't empty fails.
-fn entered<A, B, P: Feed>(
-    rt: &impl Abort,
-    seed: u32,
-    run: &Run<A, B, P>,
-    twin: &mut P,
-) -> Result<[Slot; 32], Fail> {
-    let mut places = [Slot::Empty; 32];
-    for k in 0..32u8 {
-        if let Some(place) = run.place(k) {
-            let mark = Mark::new(k)?;
-            let offer = twin.look(mark);
-            places[k as usize] = arrived(seed, place, offer, run.number())?;
-            assert_eq!(rt; twin.take(mark), offer, "seed {seed}");
+impl<R: Abort> Judge<'_, R> {
+    // Runs a rating over a pile and judges each step by the four rules, where a second pile like it tells what is offered;
+    // then judges the shares. Gives the rating back.
+    pub(super) fn watch<A: Drop, B: Drop, P: Feed + Drop>(
+        &self,
+        rating: Rating<A, B>,
+        piles: (P, P),
+    ) -> Result<Rating<A, B>, Fail> {
+        let (pile, mut twin) = piles;
+        fit(&rating, &pile)?;
+        let mut run = Run::begin(rating, pile);
+        let mut answers = Vec::new(self.heap);
+        for _ in 0..STEPS {
+            answers.push(self.judged(&mut run, &mut twin)?)?;
         }
+        self.shares(&answers)?;
+        Ok(run.end())
     }
-    Ok(places)
+
+    // Takes a step, and compares its answer and what it leaves with the rules.
+    fn judged<A, B, P: Feed>(&self, run: &mut Run<A, B, P>, twin: &mut P) -> Result<Answer, Fail> {
+        let (rt, seed) = (self.rt, self.seed);
+        let step = run.number();
+        let places = self.entered(run, twin)?;
+        let processor = self.chosen(Phase::Processor, &places);
+        let wanted = Answer {
+            step,
+            memory: self.chosen(Phase::Memory, &places),
+            processor,
+            finished: ending(processor, &places, step),
+        };
+        let answer = run.step()?;
+        assert_eq!(rt; answer, wanted, "seed {seed}");
+        twin.advance();
+        assert_eq!(rt; run.number(), step.saturating_add(1), "seed {seed}");
+        self.in_time(&answer)?;
+        self.left(run, &places, &answer)?;
+        Ok(answer)
+    }
+
+    // The places after the first rule. An arrival that comes to a place that isn't empty fails.
+    fn entered<A, B, P: Feed>(&self, run: &Run<A, B, P>, twin: &mut P) -> Result<[Slot; 32], Fail> {
+        let (rt, seed) = (self.rt, self.seed);
+        let mut places = [Slot::Empty; 32];
+        for (k, held) in (0..32u8).zip(&mut places) {
+            if let Some(place) = run.place(k) {
+                let mark = Mark::new(k)?;
+                let offer = twin.look(mark);
+                *held = arrived(seed, place, offer, run.number())?;
+                assert_eq!(rt; twin.take(mark), offer, "seed {seed}");
+            }
+        }
+        Ok(places)
+    }
+
+    // The row that waits for a resource with the least figure, of several the smallest number.
+    fn chosen(&self, phase: Phase, places: &[Slot; 32]) -> Option<u8> {
+        let (k, _) = (0..32u8)
+            .zip(places)
+            .zip(&self.limits)
+            .filter(|((_, place), _)| waits(phase, **place))
+            .map(|((k, _), limit)| (k, limit.figure(phase)))
+            .min_by_key(|(_, figure)| *figure)?;
+        Some(k)
+    }
+
+    // No response is above the sum of the row's bounds.
+    fn in_time(&self, answer: &Answer) -> Result<(), Fail> {
+        let (rt, seed) = (self.rt, self.seed);
+        if let Some((k, response)) = answer.finished {
+            let limit = self.limits.get(k as usize).ok_or("no such row")?;
+            assert!(rt; response <= limit.response, "seed {seed}: response");
+        }
+        Ok(())
+    }
+
+    // What a step leaves in the places, and that no job is too old.
+    fn left<A, B, P: Feed>(
+        &self,
+        run: &Run<A, B, P>,
+        places: &[Slot; 32],
+        answer: &Answer,
+    ) -> Result<(), Fail> {
+        let (rt, seed) = (self.rt, self.seed);
+        for ((k, held), limit) in (0..32u8).zip(places).zip(&self.limits) {
+            if let Some(place) = run.place(k) {
+                assert_eq!(rt; place, served(k, *held, answer), "seed {seed}: {k}");
+                assert!(rt; is_young(place, run.number(), limit), "seed {seed}: {k}");
+            }
+        }
+        Ok(())
+    }
+
+    // In windows of several lengths no row holds a resource more often than it may.
+    fn shares(&self, answers: &[Answer]) -> Result<(), Fail> {
+        for length in [1, 2, 3, 7, 20, 33, 64, 150, 400, 1_000] {
+            self.share(Phase::Memory, length, answers)?;
+            self.share(Phase::Processor, length, answers)?;
+        }
+        Ok(())
+    }
+
+    // Goes through the windows of one length: one step enters at the front and one leaves at the back.
+    fn share(&self, phase: Phase, length: usize, answers: &[Answer]) -> Result<(), Fail> {
+        let (rt, seed) = (self.rt, self.seed);
+        let mut held = [0; 32];
+        for (i, answer) in answers.iter().enumerate() {
+            if let Some(gone) = i.checked_sub(length).and_then(|back| answers.get(back)) {
+                leave(&mut held, holder(phase, gone));
+            }
+            if let Some(k) = holder(phase, answer) {
+                let limit = self.limits.get(k as usize).ok_or("no such row")?;
+                let steps = enter(&mut held, k);
+                assert!(rt;
+                    steps <= limit.share(phase, length),
+                    "seed {seed}: {length}: {k}"
+                );
+            }
+        }
+        Ok(())
+    }
 }
 
 fn arrived(seed: u32, place: Slot, offer: Option<(u32, u32)>, since: u32) -> Result<Slot, Fail> {
@@ -92,20 +155,6 @@ fn arrived(seed: u32, place: Slot, offer: Option<(u32, u32)>, since: u32) -> Res
         }),
         _ => Err(Fail::new(format_args!("seed {seed}: an arrival has to wait"))),
     }
-}
-
-// The row that waits for a resource with the least figure, of several the smallest number.
-fn chosen(phase: Phase, places: &[Slot; 32], limits: &[Limit; 32]) -> Option<u8> {
-    let mut first = None;
-    let mut least = u32::MAX;
-    for k in 0..32u8 {
-        let figure = limits[k as usize].figure(phase);
-        if waits(phase, places[k as usize]) && figure < least {
-            first = Some(k);
-            least = figure;
-        }
-    }
-    first
 }
 
 fn waits(phase: Phase, place: Slot) -> bool {
@@ -127,51 +176,14 @@ fn ending(row: Option<u8>, places: &[Slot; 32], step: u32) -> Option<(u8, u32)> 
     }
 }
 
-// No response is above the sum of the row's bounds.
-fn in_time(
-    rt: &impl Abort,
-    seed: u32,
-    finished: Option<(u8, u32)>,
-    limits: &[Limit; 32],
-) -> Result<(), Fail> {
-    let Some((k, response)) = finished else {
-        return Ok(());
-    };
-    let limit = limits.get(k as usize).ok_or("no such row")?;
-    assert!(rt; response <= limit.response, "seed {seed}: response");
-    Ok(())
-}
-
-// What a step leaves in the places, and that no job is too old.
-fn left<A, B, P: Feed>(
-    rt: &impl Abort,
-    seed: u32,
-    run: &Run<A, B, P>,
-    places: &[Slot; 32],
-    memory: Option<u8>,
-    processor: Option<u8>,
-    limits: &[Limit; 32],
-) -> Result<(), Fail> {
-    for k in 0..32u8 {
-        if let Some(place) = run.place(k) {
-            let wanted = served(places[k as usize], memory == Some(k), processor == Some(k));
-            assert_eq!(rt; place, wanted, "seed {seed}: {k}");
-            assert!(rt;
-                is_young(place, run.number(), &limits[k as usize]),
-                "seed {seed}: {k}"
-            );
-        }
-    }
-    Ok(())
-}
-
-fn served(place: Slot, loads: bool, computes: bool) -> Slot {
+// What a step with this answer leaves in the place of row k.
+fn served(k: u8, place: Slot, answer: &Answer) -> Slot {
     match place {
         Slot::Loading {
             left: 1,
             compute,
             since,
-        } if loads => Slot::Computing {
+        } if answer.memory == Some(k) => Slot::Computing {
             left: compute,
             since,
         },
@@ -179,13 +191,13 @@ fn served(place: Slot, loads: bool, computes: bool) -> Slot {
             left,
             compute,
             since,
-        } if loads => Slot::Loading {
+        } if answer.memory == Some(k) => Slot::Loading {
             left: left.saturating_sub(1),
             compute,
             since,
         },
-        Slot::Computing { left: 1, .. } if computes => Slot::Empty,
-        Slot::Computing { left, since } if computes => Slot::Computing {
+        Slot::Computing { left: 1, .. } if answer.processor == Some(k) => Slot::Empty,
+        Slot::Computing { left, since } if answer.processor == Some(k) => Slot::Computing {
             left: left.saturating_sub(1),
             since,
         },
@@ -207,46 +219,6 @@ fn is_young(place: Slot, number: u32, limit: &Limit) -> bool {
     }
 }
 
-// In windows of several lengths no row holds a resource more often than it may.
-fn shares(
-    rt: &impl Abort,
-    seed: u32,
-    answers: &[Answer],
-    limits: &[Limit; 32],
-) -> Result<(), Fail> {
-    for length in [1, 2, 3, 7, 20, 33, 64, 150, 400, 1_000] {
-        share(rt, seed, Phase::Memory, length, answers, limits)?;
-        share(rt, seed, Phase::Processor, length, answers, limits)?;
-    }
-    Ok(())
-}
-
-// Goes through the windows of one length: one step enters at the front and one leaves at the back.
-fn share(
-    rt: &impl Abort,
-    seed: u32,
-    phase: Phase,
-    length: usize,
-    answers: &[Answer],
-    limits: &[Limit; 32],
-) -> Result<(), Fail> {
-    let mut held = [0; 32];
-    for i in 0..answers.len() {
-        if i >= length {
-            leave(&mut held, holder(phase, &answers[i - length]));
-        }
-        if let Some(k) = holder(phase, &answers[i]) {
-            let limit = limits.get(k as usize).ok_or("no such row")?;
-            let steps = enter(&mut held, k);
-            assert!(rt;
-                steps <= limit.share(phase, length),
-                "seed {seed}: {length}: {k}"
-            );
-        }
-    }
-    Ok(())
-}
-
 fn holder(phase: Phase, answer: &Answer) -> Option<u8> {
     match phase {
         Phase::Memory => answer.memory,
@@ -256,19 +228,18 @@ fn holder(phase: Phase, answer: &Answer) -> Option<u8> {
 
 // Counts a step of a row, and answers its new count.
 fn enter(held: &mut [u64; 32], k: u8) -> u64 {
-    if k < 32 {
-        held[k as usize] = held[k as usize].saturating_add(1);
-        held[k as usize]
-    } else {
-        0
-    }
+    let Some(steps) = held.get_mut(k as usize) else {
+        return 0;
+    };
+    *steps = steps.saturating_add(1);
+    *steps
 }
 
 // Takes a step back from the row that held the resource.
 fn leave(held: &mut [u64; 32], row: Option<u8>) {
-    if let Some(k) = row {
-        if k < 32 {
-            held[k as usize] = held[k as usize].saturating_sub(1);
-        }
+    if let Some(k) = row
+        && let Some(steps) = held.get_mut(k as usize)
+    {
+        *steps = steps.saturating_sub(1);
     }
 }

@@ -25,7 +25,7 @@ impl Figure {
 
 // What a row of an accepted rating keeps: its costs, its period, the bound of its loading and that of its response, and
 // the figures that the two orders go by.
-#[derive(Clone, Copy)]
+#[derive(Clone, Copy, Default)]
 pub(super) struct Limit {
     memory: u32,
     compute: u32,
@@ -37,16 +37,6 @@ pub(super) struct Limit {
 }
 
 impl Limit {
-    const BLANK: Limit = Limit {
-        memory: 0,
-        compute: 0,
-        period: 1,
-        load: 0,
-        response: 0,
-        memory_figure: 0,
-        processor_figure: 0,
-    };
-
     // The figure that a resource's order goes by.
     pub(super) fn figure(&self, phase: Phase) -> u32 {
         match phase {
@@ -76,12 +66,7 @@ fn rounded_up(a: u64, b: u64) -> u64 {
     if b == 0 {
         return 0;
     }
-    let whole = a / b;
-    if a % b == 0 {
-        whole
-    } else {
-        whole.saturating_add(1)
-    }
+    a.div_ceil(b)
 }
 
 // The limits of each row of a rating, with the figures that its orders go by.
@@ -90,18 +75,17 @@ pub(super) fn limits<A, B>(
     figures: (Figure, Figure),
 ) -> Result<[Limit; 32], Fail> {
     let (memory, processor) = figures;
-    let mut table = [Limit::BLANK; 32];
-    let rows = rating.rows();
-    for i in 0..rows.len() {
-        let (load, rest) = rating.bounds(i as u8).ok_or("no bounds")?;
-        table[i] = Limit {
-            memory: rows[i].memory,
-            compute: rows[i].compute,
-            period: rows[i].period,
+    let mut table = [Limit::default(); 32];
+    for ((i, row), limit) in (0..32u8).zip(rating.rows()).zip(&mut table) {
+        let (load, rest) = rating.bounds(i).ok_or("no bounds")?;
+        *limit = Limit {
+            memory: row.memory,
+            compute: row.compute,
+            period: row.period,
             load,
             response: load.saturating_add(rest),
-            memory_figure: memory.of(&rows[i]),
-            processor_figure: processor.of(&rows[i]),
+            memory_figure: memory.of(row),
+            processor_figure: processor.of(row),
         };
     }
     Ok(table)

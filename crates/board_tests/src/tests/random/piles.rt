@@ -10,17 +10,14 @@ use std::alloc::{AllocError, Global};
 use std::test::*;
 
 // A clockwork that fits a rating and offers less than it may: offsets, longer intervals and lower costs.
-pub(super) fn fewer<A, B>(rating: &Rating<A, B>, dice: Dice) -> Result<Clockwork, Fail> {
-    let mut dice = dice;
+pub(super) fn fewer<A, B>(rating: &Rating<A, B>, mut dice: Dice) -> Result<Clockwork, Fail> {
     let mut clock = Clockwork::new();
-    let rows = rating.rows();
-    for i in 0..rows.len() {
-        let row = rows[i];
+    for (i, row) in (0..32u8).zip(rating.rows()) {
         let offset = dice.below(row.period);
         let interval = row.period.saturating_add(dice.below(3));
         let memory = dice.below(row.memory.saturating_add(1));
         let compute = dice.below(row.compute).saturating_add(1);
-        clock.set(Mark::new(i as u8)?, offset, interval, memory, compute)?;
+        clock.set(Mark::new(i)?, offset, interval, memory, compute)?;
     }
     Ok(clock)
 }
@@ -31,9 +28,8 @@ pub(super) fn fitted<F: Feed + Drop, A, B>(
     rating: &Rating<A, B>,
 ) -> Result<Gate<CutOff<F>>, Fail> {
     let mut cut = CutOff::new(below);
-    let rows = rating.rows();
-    for i in 0..rows.len() {
-        cut.set(Mark::new(i as u8)?, rows[i].memory, rows[i].compute)?;
+    for (i, row) in (0..32u8).zip(rating.rows()) {
+        cut.set(Mark::new(i)?, row.memory, row.compute)?;
     }
     spaced(cut, rating)
 }
@@ -41,16 +37,14 @@ pub(super) fn fitted<F: Feed + Drop, A, B>(
 // A feed under a gate at each row's period.
 fn spaced<F: Feed + Drop, A, B>(below: F, rating: &Rating<A, B>) -> Result<Gate<F>, Fail> {
     let mut gate = Gate::new(below);
-    let rows = rating.rows();
-    for i in 0..rows.len() {
-        gate.set(Mark::new(i as u8)?, rows[i].period)?;
+    for (i, row) in (0..32u8).zip(rating.rows()) {
+        gate.set(Mark::new(i)?, row.period)?;
     }
     Ok(gate)
 }
 
 // A feed under a gate of some distances.
-pub(super) fn shut<F: Feed + Drop>(below: F, dice: Dice) -> Result<Gate<F>, Fail> {
-    let mut dice = dice;
+pub(super) fn shut<F: Feed + Drop>(below: F, mut dice: Dice) -> Result<Gate<F>, Fail> {
     let mut gate = Gate::new(below);
     for k in 0..32 {
         gate.set(Mark::new(k)?, dice.below(200).saturating_add(1))?;
@@ -63,9 +57,8 @@ pub(super) fn shut<F: Feed + Drop>(below: F, dice: Dice) -> Result<Gate<F>, Fail
 pub(super) fn arrivals<A, B>(
     heap: Global,
     rating: &Rating<A, B>,
-    dice: Dice,
+    mut dice: Dice,
 ) -> Result<Vec<u8>, Fail> {
-    let mut dice = dice;
     let mut bytes = Vec::new(heap);
     let mut step: u32 = 0;
     let rows = rating.rows();
@@ -82,16 +75,14 @@ pub(super) fn arrivals<A, B>(
 
 // The full costs of a row, 1 and 1 for one that isn't there.
 fn costs(rows: &[Row], k: u8) -> (u32, u32) {
-    match rows.get(k as usize) {
-        Some(row) => (row.memory, row.compute),
-        None => (1, 1),
-    }
+    rows.get(k as usize)
+        .map_or((1, 1), |row| (row.memory, row.compute))
 }
 
 // Adds a record to a list.
 fn write(bytes: &mut Vec<u8>, step: u32, m: u32, c: u32, k: u8) -> Result<(), AllocError> {
-    bytes.extend_from_slice(&step.to_be_bytes())?;
-    bytes.extend_from_slice(&m.to_be_bytes())?;
-    bytes.extend_from_slice(&c.to_be_bytes())?;
+    for word in [step, m, c] {
+        bytes.extend_from_slice(&word.to_be_bytes())?;
+    }
     bytes.extend_from_slice(&[k, 0, 0, 0])
 }
