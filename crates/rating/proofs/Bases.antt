@@ -20,9 +20,6 @@ pub record Base (sources : List Source) (b : ℕ) : Type 0 where
   pub below : (v : ℕ) → 1 ≤ v → v < b → v < asked sources v
   pub above : (v : ℕ) → 1 ≤ v → b ≤ v → b ≤ asked sources v
 
-pub base_none : (sources : List Source) → Base sources 0
-base_none sources = record { below = λ v a h. absurd (omega arith); above = λ v a h. omega arith }
-
 -- a curve is above each length that is below its least solution: one at or below it would bring down a smaller solution
 below-least : (f : ℕ → ℕ) → ((v w : ℕ) → v ≤ w → f v ≤ f w) → (r : ℕ) → LeastSolution f r → (fuel v : ℕ) → v < fuel → v < r → v < f v
 below-least f rises r l zero v small h = absurd (omega arith)

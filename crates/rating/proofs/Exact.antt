@@ -11,9 +11,9 @@ use Rattle.rating.specs.declared.verdict.Phase.TheVariants.{Memory, Processor}
 use Rattle.rating.specs.declared.verdict.Verdict.TheVariants.{Accepted, Late}
 use Rattle.rating.proofs.Below.{Below, below-before, below-front, below-permutes, sum_same}
 use Rattle.rating.proofs.Curves.{found_least, least_found, least_within-none, least_within-same, least_within-some}
-use Rattle.rating.proofs.Firsts.{all-some, first-at, none_first, some-value}
+use Rattle.rating.proofs.Firsts.{all-some, first-at, some-value}
 use Rattle.rating.proofs.Fronts.{place_before, sum_front}
-use Rattle.rating.proofs.Verdicts.{all-bounded, within-deadline}
+use Rattle.rating.proofs.Verdicts.{all-bounded, each-some, within-deadline}
 
 -- A curve depends on how late the rows of its front are, and on no other row.
 work_late : (phase : Phase) (rows : List Row) (d e : ℕ → ℕ) (front : List ℕ) (k w n : ℕ) → Below n front → ((i : ℕ) → i < n → d i ≡ e i)
@@ -135,11 +135,8 @@ module _ (rows : List Row) (s t : Sequence) (ms ps : List ℕ) (am : Agrees s.be
         memory_figure_of rows ms,
         (
           (λ j h.
-              let place = am.permutes.each j h
-              in least_within-some (memory_work rows (rows_before s.before rows j) j) _ _
-              (sym (bound_agrees s rows ms am sm Memory never j h)
-              ∙ some-value (memory_bound rows ms j)
-              (subst (λ i. is_some (memory_bound rows ms i) ≡ true) place.1.1 (none_first (memory_bound rows ms) ms e place.0 (omega (arith, place.1.0, am.permutes.long)))))),
+              least_within-some (memory_work rows (rows_before s.before rows j) j) _ _
+              (sym (bound_agrees s rows ms am sm Memory never j h) ∙ each-some (memory_bound rows ms) (length rows) ms am.permutes e j h)),
           first_late_is t rows ps ap' sp Processor (memory_figure_of rows ms) k f,
         ),
       )

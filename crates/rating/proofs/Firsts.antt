@@ -1,4 +1,5 @@
 use Rattle.std.proofs.Common.{◌≡◌, ℕ, zero, suc, ◌<◌, true, false, List, [], ◌∷◌, length, get_or, is_some, Some, None, Option, unwrap_or, sym, refl, ap, ◌∙◌, subst, arith}
+use Rattle.std.proofs.lemmas.Bool.{both_ways}
 use Rattle.rating.specs.Bounds.{first_none, or_else}
 use Rattle.rating.proofs.Below.{Below}
 
@@ -30,16 +31,6 @@ first-none_at bound (k ∷ ks) (suc p) h before here = go (bound k) refl (first-
     go : (o : Option ℕ) → bound k ≡ o → first_none bound ks ≡ Some (get_or ks p 0) → or_else (bound k) k (first_none bound ks) ≡ Some (get_or ks p 0)
     go None e later = absurd (let z : is_some (bound k) ≡ true = before 0 (omega arith) in let y : false ≡ true = sym (ap is_some e) ∙ z in search arith)
     go (Some x) e later = rw e later
-
--- a list with a value at each of its places has no first none
-pub all-some : (bound : ℕ → Option ℕ) (ks : List ℕ) → ((p : ℕ) → p < length ks → is_some (bound (get_or ks p 0)) ≡ true) → first_none bound ks ≡ None
-unfolding first_none
-all-some bound [] h = refl
-all-some bound (k ∷ ks) h = go (bound k) refl (all-some bound ks (λ p g. h (suc p) (omega arith)))
-  where
-    go : (o : Option ℕ) → bound k ≡ o → first_none bound ks ≡ None → or_else o k (first_none bound ks) ≡ None
-    go None e later = absurd (let z : false ≡ true = sym (ap is_some e) ∙ h 0 (omega arith) in search arith)
-    go (Some x) e later = later
 
 pub first-same : (n : ℕ) (f g : ℕ → Option ℕ) (ks : List ℕ) → Below n ks → ((k : ℕ) → k < n → f k ≡ g k) → first_none f ks ≡ first_none g ks
 unfolding Below first_none
@@ -74,3 +65,11 @@ first-at bound (x ∷ xs) k e = go (bound x) refl e (first-at bound xs k)
 -- the first number without a value is one of the list, so it is below what bounds the list
 pub first_below : (bound : ℕ → Option ℕ) (ks : List ℕ) (n : ℕ) → ((p : ℕ) → p < length ks → get_or ks p 0 < n) → (k : ℕ) → first_none bound ks ≡ Some k → k < n
 first_below bound ks n small k e = let r = first-at bound ks k e in omega (arith, r.here, small r.place r.within)
+
+-- a list with a value at each of its places has no first none
+pub all-some : (bound : ℕ → Option ℕ) (ks : List ℕ) → ((p : ℕ) → p < length ks → is_some (bound (get_or ks p 0)) ≡ true) → first_none bound ks ≡ None
+all-some bound ks h = go (first_none bound ks) refl
+  where
+    go : (o : Option ℕ) → first_none bound ks ≡ o → o ≡ None
+    go None e = refl
+    go (Some k) e = absurd (let r = first-at bound ks k e in both_ways (is_some (bound k)) (ap is_some r.none) (subst (λ i. is_some (bound i) ≡ true) r.here (h r.place r.within)))

@@ -23,20 +23,19 @@ pub record Bounded (rows : List Row) (ms ps : List ℕ) (k : ℕ) : Type 0 where
   pub memory : memory_bound rows ms k ≡ Some (memory_figure_of rows ms k)
   pub processor : processor_bound rows ms ps k ≡ Some (processor_figure_of rows ms ps k)
 
+-- where the rows of a ranking all have a value, each row has
+pub each-some : (bound : ℕ → Option ℕ) (n : ℕ) (rs : List ℕ) → Permutes n rs → first_none bound rs ≡ None → (k : ℕ) → k < n → bound k ≡ Some (unwrap_or (bound k) 0)
+each-some bound n rs r none k h =
+    let z = r.each k h
+    in some-value (bound k) (subst (λ i. is_some (bound i) ≡ true) z.1.1 (none_first bound rs none z.0 (omega (arith, r.long, z.1.0))))
+
 pub all-bounded : (rows : List Row) (ms ps : List ℕ) → Permutes (length rows) ms → Permutes (length rows) ps → is_accepted (verdict_of rows ms ps) ≡ true
     → (k : ℕ) → k < length rows → Bounded rows ms ps k
 all-bounded rows ms ps am ap e k h =
     let nones = accepted_none (first_none (memory_bound rows ms) ms) (first_none (processor_bound rows ms ps) ps) e
-    in let m = am.each k h
-    in let p = ap.each k h
     in record {
-      memory =
-          some-value (memory_bound rows ms k)
-          (subst (λ i. is_some (memory_bound rows ms i) ≡ true) m.1.1 (none_first (memory_bound rows ms) ms nones.0 m.0 (omega (arith, am.long, m.1.0))));
-      processor =
-          some-value (processor_bound rows ms ps k)
-          (subst (λ i. is_some (processor_bound rows ms ps i) ≡ true) p.1.1
-          (none_first (processor_bound rows ms ps) ps nones.1 p.0 (omega (arith, ap.long, p.1.0))));
+      memory = each-some (memory_bound rows ms) (length rows) ms am nones.0 k h;
+      processor = each-some (processor_bound rows ms ps) (length rows) ps ap nones.1 k h;
     }
 
 -- the two bounds of a row are together within its deadline

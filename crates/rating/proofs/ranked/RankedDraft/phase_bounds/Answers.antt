@@ -1,4 +1,4 @@
-use Rattle.std.proofs.Common.{◌≡◌, ◌≤◌, [], ◌∷◌, ◌++◌, length, get_or, take, Some, Ok, Err, refl, sym, ap, ◌∙◌, subst, arith, length-set}
+use Rattle.std.proofs.Common.{◌≡◌, ◌≤◌, [], ◌∷◌, ◌++◌, length, get_or, take, Some, Ok, Err, refl, rules, sym, ap, ◌∙◌, subst, arith, length-set}
 use Rattle.rating.specs.Bounds.{bound_of, figure_at}
 use Rattle.rating.specs.Curves.{least_within}
 use Rattle.rating.specs.Demands.{demanded, sources_of}
@@ -10,23 +10,33 @@ use Rattle.rating.proofs.Phases.{bound_here, bounds_more, found-lent, length_sou
 use Rattle.rating.proofs.Rankings.{permutes-lent}
 use Rattle.rating.proofs.ranked.RankedDraft.phase_bounds.Goals as goal
 
+pub loop-k-init : goal.loop-k-init
+loop-k-init c = (
+  refl,
+  search rules,
+  search (rules, arith),
+  search (rules, arith),
+  omega arith,
+  permutes-lent c.args.self.now c.args.phase _ _ c.rows-rows.ensures.value (c.rows-order.ensures ∙ ap ranked c.ranking.ensures),
+)
+
 pub bounds-rows-k : goal.bounds-rows-k
 bounds-rows-k c =
-    (turn c.rows-rows.result.now c.rows-order.result.now c.loop-k.k-index (permutes-lent c.args.self.now c.args.phase c.rows-rows.result.now c.rows-order.result.now c.rows-rows.ensures.value (c.rows-order.ensures ∙ ap ranked c.ranking.ensures)) c.loop-k-test.true).within
+    (turn _ _ _ c.loop-k.invariant.5 c.loop-k-test.true).within
 
 pub bounds-late-k : goal.bounds-late-k
 bounds-late-k c =
-    let t = turn c.rows-rows.result.now c.rows-order.result.now c.loop-k.k-index (permutes-lent c.args.self.now c.args.phase c.rows-rows.result.now c.rows-order.result.now c.rows-rows.ensures.value (c.rows-order.ensures ∙ ap ranked c.ranking.ensures)) c.loop-k-test.true
+    let t = turn _ _ _ c.loop-k.invariant.5 c.loop-k-test.true
     in omega (arith, t.within, c.rows-rows.ensures.few)
 
 pub bounds-found-k : goal.bounds-found-k
 bounds-found-k c =
-    let t = turn c.rows-rows.result.now c.rows-order.result.now c.loop-k.k-index (permutes-lent c.args.self.now c.args.phase c.rows-rows.result.now c.rows-order.result.now c.rows-rows.ensures.value (c.rows-order.ensures ∙ ap ranked c.ranking.ensures)) c.loop-k-test.true
+    let t = turn _ _ _ c.loop-k.invariant.5 c.loop-k-test.true
     in omega (arith, t.within, c.rows-rows.ensures.few)
 
 pub start-from-requires : goal.start-from-requires
 start-from-requires c =
-    let t = turn c.rows-rows.result.now c.rows-order.result.now c.loop-k.k-index (permutes-lent c.args.self.now c.args.phase c.rows-rows.result.now c.rows-order.result.now c.rows-rows.ensures.value (c.rows-order.ensures ∙ ap ranked c.ranking.ensures)) c.loop-k-test.true
+    let t = turn _ _ _ c.loop-k.invariant.5 c.loop-k-test.true
     in (omega (arith, c.cost-own.ensures, cost_small c.args.phase _ (c.rows-rows.ensures.valid _ t.within)), c.loop-k.invariant.4)
 
 -- no solution is below the last bound and the own cost together
@@ -43,7 +53,7 @@ least_from-requires c = record {
 pub add-requires : goal.add-requires
 add-requires c =
     let rs = c.rows-order.result.now
-    in let t = turn c.rows-rows.result.now rs c.loop-k.k-index (permutes-lent c.args.self.now c.args.phase c.rows-rows.result.now c.rows-order.result.now c.rows-rows.ensures.value (c.rows-order.ensures ∙ ap ranked c.ranking.ensures)) c.loop-k-test.true
+    in let t = turn c.rows-rows.result.now rs c.loop-k.k-index c.loop-k.invariant.5 c.loop-k-test.true
     in let late = figure_at c.args.late.now
     in record {
       room =
@@ -62,7 +72,7 @@ pub loop-k-preserved : goal.loop-k-preserved
 loop-k-preserved c =
     let rs = c.rows-order.result.now
     in let p = c.loop-k.k-index
-    in let t = turn c.rows-rows.result.now rs p (permutes-lent c.args.self.now c.args.phase c.rows-rows.result.now c.rows-order.result.now c.rows-rows.ensures.value (c.rows-order.ensures ∙ ap ranked c.ranking.ensures)) c.loop-k-test.true
+    in let t = turn _ _ _ c.loop-k.invariant.5 c.loop-k-test.true
     in let late = figure_at c.args.late.now
     in let d = c.own_cost.new.self
     in let own = c.own_cost.ensures.own ∙ c.cost-own.ensures
@@ -82,13 +92,14 @@ loop-k-preserved c =
           c.in-Some.ensures.least c.raised-base.ensures),
       raised_small c.cost-own.result c.loop-k.base c.in-Some.w c.raised-base.result c.raised-base.ensures c.loop-k.invariant.4
           (omega (arith, c.in-Some.ensures.least.within, c.ceiling.ensures, ceiling_small c.args.phase _ (late (get_or rs p 0)) (c.rows-rows.ensures.valid _ t.within))),
+      t.permutes,
     )
 
 pub returns-in_default : goal.returns-in_default
 returns-in_default c =
     let rs = c.rows-order.result.now
     in let p = c.loop-k.k-index
-    in let t = turn c.rows-rows.result.now rs p (permutes-lent c.args.self.now c.args.phase c.rows-rows.result.now c.rows-order.result.now c.rows-rows.ensures.value (c.rows-order.ensures ∙ ap ranked c.ranking.ensures)) c.loop-k-test.true
+    in let t = turn _ _ _ c.loop-k.invariant.5 c.loop-k-test.true
     in let late = figure_at c.args.late.now
     in let d = c.own_cost.new.self
     in let own = c.own_cost.ensures.own ∙ c.cost-own.ensures
@@ -103,7 +114,7 @@ returns c =
     let late = figure_at c.args.late.now
     in let rs = c.rows-order.result.now
     in let is = c.rows-order.ensures ∙ ap ranked c.ranking.ensures
-    in let r = permutes-lent c.args.self.now c.args.phase c.rows-rows.result.now rs c.rows-rows.ensures.value is
+    in let r = c.loop-k.invariant.5
     in found-lent c.args.self.now c.args.phase late c.rows-rows.result.now rs c.rows-rows.ensures.value is (Ok c.loop-k.found) (
       c.loop-k.invariant.0,
       (λ k h.
