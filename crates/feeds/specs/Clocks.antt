@@ -12,6 +12,10 @@ use Rattle.feeds.specs.declared.terms.Terms.{Terms}
 abbrev pub entry_of : Clockwork → ℕ → Option Beat
 entry_of x = at_mark None x.entries
 
+-- the same arrivals one step later
+abbrev pub beat_later : Beat → Beat
+beat_later b = record { rest = b.rest - 1; terms = b.terms }
+
 -- the rest of a mark; one that was never set does not rest
 abbrev pub rest_of : Option Beat → ℕ
 rest_of None = 0

@@ -1,4 +1,4 @@
-use Rattle.std.specs.Prelude.{◌≡◌, ℕ, ◌<◌, ◌≢◌, slice_index_or}
+use Rattle.std.specs.Prelude.{◌≡◌, ℕ, ◌≢◌, slice_index_or}
 use Rattle.feeds.specs.declared.per_mark.PerMark.{PerMark}
 
 -- the value of mark k; past the last mark it is d
@@ -8,7 +8,3 @@ at_mark d x k = slice_index_or x.entries k d
 -- every mark but k has the same value in y as in x
 abbrev pub OthersKept : {T : Type 0} → T → PerMark T → ℕ → PerMark T → Type 0
 OthersKept d x k y = (j : ℕ) → (j ≢ k) → at_mark d y j ≡ at_mark d x j
-
--- at each mark, R allows the step from the value in x to the value in y
-abbrev pub EachMoved : {T : Type 0} → (T → T → Type 0) → PerMark T → PerMark T → Type 0
-EachMoved R x y = (d : _) (k : ℕ) → k < 32 → R (at_mark d x k) (at_mark d y k)

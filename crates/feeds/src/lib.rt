@@ -9,3 +9,4 @@ pub mod per_mark;
 pub mod pledge;
 pub mod sheet;
 pub mod terms;
+pub mod timed;

@@ -20,6 +20,10 @@ pub record Spaced (e : Spacing) (d r : ℕ) : Type 0 where
   pub distance : e.distance.steps ≡ d
   pub rest : e.rest ≡ r
 
+-- the same spacing one step later
+abbrev pub spacing_later : Spacing → Spacing
+spacing_later e = record { distance = e.distance; rest = e.rest - 1 }
+
 -- f is e one step later
 abbrev pub Lowered : Spacing → Spacing → Type 0
 Lowered e f = Spaced f e.distance.steps (e.rest - 1)

@@ -27,6 +27,3 @@ pub record Moved (p : PerMark Place) (k : ℕ) (place : Place) (q : PerMark Plac
 -- a place one step later
 abbrev pub lower : Place → Place
 lower place = record { cursor = place.cursor; rest = place.rest - 1 }
-
-abbrev pub Lowered : PerMark Place → PerMark Place → Type 0
-Lowered p q = (k : ℕ) → place_of q k ≡ lower (place_of p k)

@@ -1,5 +1,5 @@
-ghost use Rattle.std.specs.Prelude.{◌≡◌, ◌-◌, ℕ, false, None};
-ghost use Rattle.feeds.specs.Clocks.{ClockAdvanced, ClockSet, ClockTaken, Has, clock_view, entry_of, terms_of};
+ghost use Rattle.std.specs.Prelude.{◌≡◌, ℕ, false, None};
+ghost use Rattle.feeds.specs.Clocks.{ClockAdvanced, ClockSet, ClockTaken, Has, beat_later, clock_view, entry_of, terms_of};
 ghost use Rattle.feeds.specs.Meanings.{Advanced, Taken};
 ghost use Rattle.feeds.specs.Settings.{Figures, timing_checked};
 
@@ -10,13 +10,12 @@ use crate::mark::Mark;
 use crate::per_mark::PerMark;
 use crate::pledge::Pledge;
 use crate::terms::{Ceilings, Distance, Terms};
+use crate::timed::Timed;
 
-impl Beat {
-    // The same arrivals one step later.
-    fn later(self) -> Beat
-        ensures rest { result.rest ≡ self.rest - 1 }
-        ensures terms { result.terms ≡ self.terms }
-    {
+impl Timed for Beat {
+    ghost later = { beat_later };
+
+    fn later(self) -> Beat {
         Beat {
             rest: self.rest.saturating_sub(1),
             ..self
@@ -129,6 +128,6 @@ impl Feed for Clockwork {
         ensures advanced { Advanced (clock_view self.old) (clock_view self.new) }
         ensures entries { ClockAdvanced self.old self.new }
     {
-        self.entries.update(|entry| entry.map(Beat::later));
+        self.entries.advance();
     }
 }

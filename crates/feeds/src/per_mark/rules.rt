@@ -1,8 +1,9 @@
-ghost use Rattle.std.specs.Prelude.{◌≡◌, ◌<◌, ℕ, replicate, slice_set};
-ghost use Rattle.feeds.specs.PerMarks.{EachMoved, at_mark};
+ghost use Rattle.std.specs.Prelude.{◌≡◌, map, replicate, slice_set};
+ghost use Rattle.feeds.specs.PerMarks.{at_mark};
 
 use super::PerMark;
 use crate::mark::Mark;
+use crate::timed::Timed;
 
 impl<T: Copy> PerMark<T> {
     // The same value for each mark.
@@ -28,14 +29,15 @@ impl<T: Copy> PerMark<T> {
         let i = k.index();
         self.entries[i] = value;
     }
+}
 
-    // Puts what a closure makes of it in place of the value of each mark.
-    pub fn update<F: Fn(T) -> T>(&mut self, change: F)
-        requires { F.IsAlwaysCallable change }
-        ensures { EachMoved (F.post change) self.old self.new }
+impl<T: Timed + Copy> PerMark<T> {
+    // Goes on by one step: each value becomes what it is one step later.
+    pub fn advance(&mut self)
+        ensures { self.new.entries ≡ map T.Timed.later self.old.entries }
     {
         for own in &mut self.entries {
-            *own = change(*own);
+            *own = own.later();
         }
     }
 }

@@ -1,5 +1,5 @@
 ghost use Rattle.std.specs.Prelude.{◌≡◌, None};
-ghost use Rattle.layers.specs.Gates.{GateAdvanced, GateMade, GateSet, GateTaken, Lowered, Spaced, gate_view};
+ghost use Rattle.layers.specs.Gates.{GateAdvanced, GateMade, GateSet, GateTaken, Spaced, gate_view, spacing_later};
 ghost use Rattle.feeds.specs.Meanings.{Advanced, Taken};
 ghost use Rattle.feeds.specs.Settings.{distance_checked};
 
@@ -10,21 +10,23 @@ use feeds::mark::Mark;
 use feeds::per_mark::PerMark;
 use feeds::pledge::Pledge;
 use feeds::terms::Distance;
+use feeds::timed::Timed;
 
 // Stays: tried, and not proved: what `Self::LETTER` is in an impl over any feed.
 const INITIAL: u8 = b'G';
 
-impl Spacing {
-    // The same spacing one step later.
-    fn later(self) -> Spacing
-        ensures { Lowered self result }
-    {
+impl Timed for Spacing {
+    ghost later = { spacing_later };
+
+    fn later(self) -> Spacing {
         Spacing {
             rest: self.rest.saturating_sub(1),
             ..self
         }
     }
+}
 
+impl Spacing {
     // The same distance, for which it stays shut.
     fn shut(self) -> Spacing
         ensures { Spaced result self.distance.steps self.distance.steps }
@@ -125,6 +127,6 @@ impl<F: Feed> Feed for Gate<F> {
         ensures parts { GateAdvanced F.Pledge.view self.old self.new }
     {
         self.below.advance();
-        self.spacings.update(Spacing::later);
+        self.spacings.advance();
     }
 }

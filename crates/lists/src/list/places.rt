@@ -1,9 +1,10 @@
 ghost use Rattle.std.specs.Prelude.{◌≡◌};
-ghost use Rattle.lists.specs.Places.{Lowered, Placed, lower};
+ghost use Rattle.lists.specs.Places.{Placed, lower};
 
 use crate::records::Records;
 use feeds::mark::Mark;
 use feeds::per_mark::PerMark;
+use feeds::timed::Timed;
 
 // Where a mark stands in a list, and for how many steps it rests.
 #[derive(Clone, Copy)]
@@ -12,11 +13,10 @@ pub(crate) struct Place {
     pub(crate) rest: u32,
 }
 
-impl Place {
-    // The same place one step later.
-    fn later(self) -> Place
-        ensures { result ≡ lower self }
-    {
+impl Timed for Place {
+    ghost later = { lower };
+
+    fn later(self) -> Place {
         Place {
             rest: self.rest.saturating_sub(1),
             ..self
@@ -34,11 +34,4 @@ pub(crate) fn first_places(records: &Records) -> PerMark<Place>
         places.set(k, Place { cursor, rest: 0 });
     }
     places
-}
-
-// Every mark one step later.
-pub(crate) fn rest_on(places: &mut PerMark<Place>)
-    ensures { Lowered places.old places.new }
-{
-    places.update(Place::later);
 }

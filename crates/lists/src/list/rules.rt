@@ -4,7 +4,7 @@ ghost use Rattle.lists.specs.Lists.{Drawn, Later, ListMade, OfMark, due_of, figu
 ghost use Rattle.feeds.specs.Meanings.{Advanced, Taken};
 
 use super::List;
-use super::places::{Place, first_places, rest_on};
+use super::places::{Place, first_places};
 use crate::records::{Records, sound_count};
 use feeds::feed::Feed;
 use feeds::mark::Mark;
@@ -119,7 +119,7 @@ impl<'a> Feed for List<'a> {
         ensures advanced { Advanced (listing self.old) (listing self.new) }
         ensures later { Later self.old self.new }
     {
-        rest_on(&mut self.places);
+        self.places.advance();
         self.clock = self.clock.saturating_add(1);
     }
 }
