@@ -1,8 +1,10 @@
-use Rattle.std.proofs.Common.{◌≡◌, ℕ, replicate, get_or, sym, subst}
-use Rattle.feeds.proofs.Tables.{each}
-use Rattle.feeds.specs.PerMarks.{at_mark}
-use Rattle.feeds.specs.declared.per_mark.PerMark.{PerMark}
+use Rattle.std.proofs.Common.{◌≡◌, ℕ, cond, nat_lt, replicate, get_or}
+use Rattle.std.proofs.lemmas.Bool.{cond_both, ltb-true, ltb-false}
+use Rattle.std.proofs.lemmas.List.{get_or_past, get_or-replicate, length-replicate}
 
--- what holds of the one value of a table, and of the default, holds at every place
-pub everywhere : {T : Type 0} (P : T → Type 0) (d e : T) (x : PerMark T) → x.entries ≡ replicate 32 e → P e → P d → (k : ℕ) → P (at_mark d x k)
-everywhere P d e x h p q k = subst (λ xs. P (get_or xs k d)) (sym h) (each P 32 e d p q k)
+-- a table of one value has it at each mark, and past the last mark there is the default
+pub of_one : {T : Type 0} (n : ℕ) (e d : T) (k : ℕ) → get_or (replicate n e) k d ≡ cond (nat_lt k n) e d
+of_one n e d k =
+    cond_both (nat_lt k n) e d (λ x. get_or (replicate n e) k d ≡ x)
+    (λ h. get_or-replicate n k e d (ltb-true k n h))
+    (λ h. get_or_past (replicate n e) k d (rw length-replicate (ltb-false k n h)))

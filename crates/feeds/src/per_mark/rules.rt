@@ -1,4 +1,4 @@
-ghost use Rattle.std.specs.Prelude.{◌≡◌, map, replicate, slice_set};
+ghost use Rattle.std.specs.Prelude.{◌≡◌, cond, map, nat_lt, slice_set, ℕ};
 ghost use Rattle.feeds.specs.PerMarks.{at_mark};
 
 use super::PerMark;
@@ -8,7 +8,7 @@ use crate::timed::Timed;
 impl<T: Copy> PerMark<T> {
     // The same value for each mark.
     pub fn new(value: T) -> PerMark<T>
-        ensures { result.entries ≡ replicate 32 value }
+        ensures { (d : T) (k : ℕ) → at_mark d result k ≡ cond (nat_lt k 32) value d }
     {
         PerMark {
             entries: [value; 32],
@@ -22,7 +22,7 @@ impl<T: Copy> PerMark<T> {
         self.entries[k.index()]
     }
 
-    // Puts a value in place of that of a mark.
+    // Puts a value at a mark.
     pub fn set(&mut self, k: Mark, value: T)
         ensures { self.new.entries ≡ slice_set self.old.entries k.value value }
     {

@@ -1,7 +1,6 @@
-use Rattle.std.proofs.Common.{◌≡◌, ℕ, set, ◌≢◌, sym, refl, ap, ◌∙◌, subst, ⊎_elim, arith, below_more}
+use Rattle.std.proofs.Common.{◌≡◌, ℕ, set, ◌≢◌, sym, ap, ◌∙◌, subst, ⊎_elim, arith, below_more, rules}
 use Rattle.std.proofs.lemmas.Bool.{cases_lt}
-use Rattle.feeds.proofs.PerMarks.{everywhere}
-use Rattle.lists.specs.Places.{blank, place_of}
+use Rattle.lists.specs.Places.{place_of}
 use Rattle.lists.specs.ListRecords.{sought}
 use Rattle.lists.specs.declared.list.places.Place.{Place}
 use Rattle.feeds.specs.declared.mark.Mark.{Mark}
@@ -9,7 +8,7 @@ use Rattle.lists.proofs.Standing.{put-moved}
 use Rattle.lists.proofs.list.places.first_places.Goals as goal
 
 pub loop-k-init : goal.loop-k-init
-loop-k-init c = ((λ k h. absurd (omega arith)), (λ k h. everywhere (λ e. e ≡ blank) blank blank c.new-places.result c.new-places.ensures refl refl k))
+loop-k-init c = ((λ k h. absurd (omega arith)), search rules)
 
 pub loop-k-preserved : goal.loop-k-preserved
 loop-k-preserved c =
