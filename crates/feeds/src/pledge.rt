@@ -7,7 +7,7 @@ use crate::mark::Mark;
 // more than the ceilings. What it shows, and the facts that hold of every pledge, stand in its view.
 pub trait Pledge {
     // The letter of its kind; `initial` says it in contracts, and `kind` answers it.
-    // Stays: tried, and not proved: an impl with a lifetime, that of a list, can't give a `ghost LETTER` to this constant.
+    // Stays: tried, and not proved: a `ghost LETTER` of this constant, which an impl with a lifetime, a list's, can't give.
     const LETTER: u8;
 
     ghost initial: { ℕ };

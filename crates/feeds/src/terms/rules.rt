@@ -13,7 +13,7 @@ impl Distance {
     pub fn new(steps: u32) -> Result<Distance, SettingFault>
         ensures { DistanceMade steps result }
     {
-        if steps < 1 || steps > 1_000_000 {
+        if !(1..=1_000_000).contains(&steps) {
             return Err(SettingFault::Distance);
         }
         Ok(Distance { steps })
@@ -38,14 +38,14 @@ impl Ceilings {
         processor: 1_000_000,
     };
 
-    // These ceilings. The memory ceiling is checked first.
+    // Ceilings of these figures. The memory figure is checked first.
     pub fn new(memory: u32, processor: u32) -> Result<Ceilings, SettingFault>
         ensures { CeilingsMade memory processor result }
     {
         if memory > 1_000_000 {
             return Err(SettingFault::Memory);
         }
-        if processor < 1 || processor > 1_000_000 {
+        if !(1..=1_000_000).contains(&processor) {
             return Err(SettingFault::Processor);
         }
         Ok(Ceilings { memory, processor })

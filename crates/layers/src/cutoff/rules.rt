@@ -11,8 +11,8 @@ use feeds::per_mark::PerMark;
 use feeds::pledge::Pledge;
 use feeds::terms::Ceilings;
 
-// Stays: tried, and not proved: what `Self::LETTER` is in an impl over any feed.
-const INITIAL: u8 = b'C';
+// Stays: tried, and not proved: `kind` by `Self::LETTER`, of which nothing is known in an impl over any feed.
+const LETTER: u8 = b'C';
 
 // What ceilings leave of an offer.
 fn trim(own: Ceilings, offer: Option<(u32, u32)>) -> Option<(u32, u32)>
@@ -53,14 +53,14 @@ impl<F: Feed> CutOff<F> {
 }
 
 impl<F: Feed> Pledge for CutOff<F> {
-    const LETTER: u8 = INITIAL;
+    const LETTER: u8 = LETTER;
 
     ghost initial = { 67 };
 
     ghost view = { cut_off_view F.Pledge.view };
 
     fn kind(&self) -> u8 {
-        INITIAL
+        LETTER
     }
 
     fn distance(&self, k: Mark) -> u32 {

@@ -12,8 +12,8 @@ use feeds::pledge::Pledge;
 use feeds::terms::Distance;
 use feeds::timed::Timed;
 
-// Stays: tried, and not proved: what `Self::LETTER` is in an impl over any feed.
-const INITIAL: u8 = b'G';
+// Stays: tried, and not proved: `kind` by `Self::LETTER`, of which nothing is known in an impl over any feed.
+const LETTER: u8 = b'G';
 
 impl Timed for Spacing {
     ghost later = { spacing_later };
@@ -73,14 +73,14 @@ impl<F: Feed> Gate<F> {
 }
 
 impl<F: Feed> Pledge for Gate<F> {
-    const LETTER: u8 = INITIAL;
+    const LETTER: u8 = LETTER;
 
     ghost initial = { 71 };
 
     ghost view = { gate_view F.Pledge.view };
 
     fn kind(&self) -> u8 {
-        INITIAL
+        LETTER
     }
 
     fn distance(&self, k: Mark) -> u32 {
