@@ -1,11 +1,12 @@
 -- That what a journal notes of a step, from its answer and the places, is what the step did.
 use Rattle.std.proofs.Common.{◌≡◌, ℕ, ◌+◌, ◌-◌, ◌<◌, max, Bool, true, false, cond, ◌&&◌, ◌||◌, eqb, List, [], ◌∷◌, length, is_some, Some, None, Option, unwrap_or, sym, refl, ap, ◌∙◌, subst, inl, inr, arith}
 use Rattle.std.proofs.lemmas.Bool.{both_ways, cases_Bool, eqb-true}
+use Rattle.std.specs.List.{find}
 use Rattle.feeds.specs.Meanings.{View}
 use Rattle.schedule.specs.Places.{admitted, is_loading, job, moved, names, takes}
 use Rattle.schedule.specs.declared.place.Slot.{Slot}
 use Rattle.schedule.specs.declared.place.Slot.TheVariants.{Empty, Loading, Computing}
-use Rattle.board.specs.Runs.{Along, Stepped, finished, first, memory_ranking, offered, place, placed, processor_ranking, response, rows_in}
+use Rattle.board.specs.Runs.{Along, Stepped, finished, memory_ranking, offered, place, placed, processor_ranking, response, rows_in}
 use Rattle.board.specs.declared.run.Answer.{Answer}
 use Rattle.board.specs.declared.run.Run.{Run}
 use Rattle.simulate.specs.Counts.{counted, loaded_in}
@@ -72,7 +73,7 @@ entered a b t None (Computing left since) = refl
 entered a b t (Some q) (Computing left since) = refl
 
 -- the first number that passes does pass
-passed : (passes : ℕ → Bool) (xs : List ℕ) (k : ℕ) → first passes xs ≡ Some k → passes k ≡ true
+passed : (passes : ℕ → Bool) (xs : List ℕ) (k : ℕ) → find passes xs ≡ Some k → passes k ≡ true
 passed passes [] k e = absurd (let z : ◌≡◌ {A = ℕ} 0 1 = cc in omega arith)
 passed passes (x ∷ xs) k e =
     elim (cases_Bool (passes x)) [
@@ -84,7 +85,7 @@ passed passes (x ∷ xs) k e =
     ]
 
 -- whom the memory serves was loading
-named : (o : Option ℕ) (passes : ℕ → Bool) (xs : List ℕ) (k : ℕ) → o ≡ first passes xs → names o k ≡ true → passes k ≡ true
+named : (o : Option ℕ) (passes : ℕ → Bool) (xs : List ℕ) (k : ℕ) → o ≡ find passes xs → names o k ≡ true → passes k ≡ true
 named None passes xs k e h = absurd (both_ways false refl h)
 named (Some j) passes xs k e h = subst (λ i. passes i ≡ true) (eqb-true j k h) (passed passes xs j (sym e))
 

@@ -1,13 +1,6 @@
-use Rattle.std.specs.Prelude.{◌≡◌, ℕ, ◌≤◌, List, [], ◌∷◌, ◌++◌, Some, None, string_bytes, decimal, Option, String, ◌≢◌}
+use Rattle.std.specs.Prelude.{◌≡◌, ℕ, ◌≤◌, List, [], ◌∷◌, Some, None, string_bytes, Option, String, ◌≢◌}
 use Rattle.std.specs.Str.Parse.{IsNumeral, digits_value}
 use Rattle.std.specs.declared.alloc.Global.{Global}
-use Rattle.listing.specs.Listings.{record_text}
-use Rattle.listing.specs.Words.{spelled}
-use Rattle.listing.specs.declared.word.Word.TheVariants as word
-use Rattle.lists.specs.ListFaults.{check_number}
-use Rattle.lists.specs.declared.records.fault.CheckFault.{CheckFault}
-use Rattle.lists.specs.declared.records.fault.CheckFault.TheVariants.{List as InList}
-use Rattle.lists.specs.declared.records.fault.ListFault.TheVariants.{Length, Record}
 
 -- What the arguments ask for.
 
@@ -21,12 +14,3 @@ abbrev pub NamedAs : Option (String Global) → Option (String Global) → Type 
 NamedAs None o = o ≡ None
 NamedAs (Some s) None = string_bytes s ≡ 45 ∷ []
 NamedAs (Some s) (Some t) = (t ≡ s) × (string_bytes s ≢ 45 ∷ [])
-
--- the number of the record that a list's fault stands in, if there is one
-abbrev pub record_in : CheckFault → Option ℕ
-record_in (InList Length) = None
-record_in (InList (Record bad)) = Some bad.number
-
--- why a list is turned down, in the words of a listing
-abbrev pub refusal_text : CheckFault → List ℕ
-refusal_text fault = spelled word.TurnedDown ++ (decimal (check_number fault) ++ record_text (record_in fault))

@@ -7,7 +7,7 @@ use crate::beginning::begin;
 use crate::pile::clockwork;
 use crate::request::{Request, sample};
 use crate::stepping::Simulation;
-use crate::stop::{Stop, refusal};
+use crate::stop::Stop;
 use crate::table::Report;
 use feeds::feed::Feed;
 use feeds::pledge::Pledge;
@@ -16,6 +16,7 @@ use listing::listing::{list_fault, list_rating};
 use lists::list::List;
 use lists::records::check_list;
 use rows::draft::Draft;
+use rows::fault::Refusal;
 use std::fs::File;
 use std::io::{Read, Write};
 use std::process::ExitCode;
@@ -95,9 +96,9 @@ fn read_list(rt: &HostRuntime, name: String) -> Result<Vec<u8>, Stop> {
         Err(error) => return Err(Stop::Unreadable(name, error)),
     };
     if let Err(fault) = check_list(&bytes) {
-        let told = refusal(rt.alloc(), &fault)?;
+        let refusal = Refusal::from(fault);
         eprintln!(rt;
-            "simulate: {name}: {told}; the records before the first faulty one are used"
+            "simulate: {name}: {refusal}; the records before the first faulty one are used"
         )?;
     }
     Ok(bytes)

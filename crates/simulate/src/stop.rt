@@ -1,8 +1,4 @@
-ghost use Rattle.simulate.specs.Requests.{record_in, refusal_text};
-ghost use Rattle.std.specs.Prelude.{◌≡◌, IfOk, string_bytes};
-
-use lists::records::fault::{BadListRecord, CheckFault, ListFault};
-use std::alloc::{AllocError, Global};
+use std::alloc::AllocError;
 use std::{fmt, io};
 
 // Why the program ends with status 1.
@@ -47,26 +43,5 @@ impl From<io::Error> for Stop {
 impl From<AllocError> for Stop {
     fn from(_error: AllocError) -> Stop {
         Stop::NoMemory
-    }
-}
-
-// The record that a list's fault stands in, if there is one.
-fn record_of(fault: &CheckFault) -> Option<usize>
-    ensures { result ≡ record_in fault.now }
-{
-    match fault {
-        CheckFault::List(ListFault::Length) => None,
-        CheckFault::List(ListFault::Record(BadListRecord { number, fault: _ })) => Some(*number),
-    }
-}
-
-// Why a list is turned down, in the words of the listing of a load's fault.
-pub(crate) fn refusal(heap: Global, fault: &CheckFault) -> Result<String, AllocError>
-    ensures { IfOk result (λ t. string_bytes t ≡ refusal_text fault.now) }
-{
-    let number = fault.number();
-    match record_of(fault) {
-        Some(record) => format!(in heap; "turned down {number} record {record}"),
-        None => format!(in heap; "turned down {number}"),
     }
 }
