@@ -4,15 +4,7 @@ use Rattle.layers.specs.Gates.{Spaced, spacing}
 use Rattle.layers.specs.declared.cutoff.CutOff.{CutOff}
 use Rattle.layers.specs.declared.gate.Gate.{Gate}
 use Rattle.rating.specs.Bounds.{row_of}
-use Rattle.rating.specs.Orders.{Before, by_figure}
 use Rattle.rows.specs.declared.row.Row.{Row}
-
--- the two orders of a board: the smaller rank first, at equal ranks the smaller number
-abbrev pub by_memory_rank : Before
-by_memory_rank = (by_figure (λ r. r.memory_rank)).before
-
-abbrev pub by_processor_rank : Before
-by_processor_rank = (by_figure (λ r. r.processor_rank)).before
 
 -- a cut-off over f has each row's costs as ceilings, and cuts nothing at the other marks
 pub record CutTo {F : Type 0} (rows : List Row) (f : F) (x : CutOff F) : Type 0 where

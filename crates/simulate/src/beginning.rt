@@ -5,9 +5,9 @@ ghost use Rattle.layers.specs.Cuts.{cut_off_view};
 ghost use Rattle.layers.specs.Gates.{gate_view};
 ghost use Rattle.rating.specs.Bounds.{is_accepted};
 ghost use Rattle.rating.specs.Closing.{Accepts, BoundsRead};
+ghost use Rattle.rating.specs.Orders.{by_memory_rank, by_processor_rank};
 ghost use Rattle.rating.specs.Ratings.{bounds_at, draft_in, verdict_in};
 ghost use Rattle.rows.specs.Drafts.{rows_of};
-ghost use Rattle.simulate.specs.Piles.{by_memory_rank, by_processor_rank};
 ghost use Rattle.std.specs.Prelude.{◌≡◌, true, Decides};
 
 use crate::pile::guarded;
