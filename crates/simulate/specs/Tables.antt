@@ -1,5 +1,6 @@
 use Rattle.std.specs.Prelude.{ℕ, zero, suc, ◌+◌, ◌-◌, max, cond, List, [], ◌∷◌, ◌++◌, map, length, replicate, Some, None, codes, decimal, Option, nat_lt}
 use Rattle.rows.specs.Drafts.{rows_of}
+use Rattle.rows.specs.Rows.{label_bytes}
 use Rattle.rating.specs.Bounds.{row_of}
 use Rattle.rating.specs.Ratings.{bounds_at, draft_in, verdict_in}
 use Rattle.rating.specs.declared.rating.Rating.{Rating}
@@ -7,7 +8,6 @@ use Rattle.rating.specs.declared.verdict.Phase.{Phase}
 use Rattle.rating.specs.declared.verdict.Phase.TheVariants.{Memory as OnMemory, Processor as OnProcessor}
 use Rattle.rating.specs.declared.verdict.Verdict.{Verdict}
 use Rattle.rating.specs.declared.verdict.Verdict.TheVariants.{Accepted, Late}
-use Rattle.listing.specs.Lines.{label_text}
 use Rattle.listing.specs.Text.{two_digits}
 use Rattle.board.specs.declared.run.Answer.{Answer}
 use Rattle.simulate.specs.Counts.{tally_at}
@@ -121,7 +121,7 @@ module _ {A B : Type 0} (r : Rating A B) (y : Journal) where
 
   -- the line of row k: number, label and columns
   unfoldable pub row_text : ℕ → List ℕ
-  row_text k = two_digits k ++ (codes "  " ++ (label_text (row_of (rows_of (draft_in r)) k).label ++ (in_turn (cell_in k) columns ++ (10 ∷ []))))
+  row_text k = two_digits k ++ (codes "  " ++ (label_bytes (row_of (rows_of (draft_in r)) k).label ++ (in_turn (cell_in k) columns ++ (10 ∷ []))))
 
   -- all that is printed behind the listing
   abbrev pub report_text : List ℕ

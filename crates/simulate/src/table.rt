@@ -5,7 +5,7 @@ ghost use Rattle.simulate.specs.Tables.{at_right, cell_in, columns, figure_at, h
 
 use crate::column::Column;
 use crate::journal::Journal;
-use crate::text::{put_figure, put_label, put_number, word_width};
+use crate::text::{put_figure, put_row_head, word_width};
 use board::run::Answer;
 use rating::rating::Rating;
 use rating::verdict::{Phase, Verdict};
@@ -85,8 +85,7 @@ impl<A, B> Report<'_, A, B> {
     {
         let rows = self.rating.rows();
         for (k, row) in rows.iter().enumerate() {
-            put_number(text, k as u8)?;
-            put_label(text, row.label)?;
+            put_row_head(text, k as u8, row.label)?;
             self.put_cells(text, k as u8)?;
             text.push('\n')?;
         }

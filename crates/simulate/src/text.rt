@@ -1,38 +1,17 @@
-ghost use Rattle.std.specs.Prelude.{◌≡◌, ◌<◌, true, [], ◌∷◌, ◌++◌, length, codes, string_bytes, decimal, OnOk};
-ghost use Rattle.listing.specs.Lines.{label_text};
+ghost use Rattle.std.specs.Prelude.{◌≡◌, ◌<◌, true, ◌∷◌, ◌++◌, length, codes, string_bytes, decimal, OnOk};
 ghost use Rattle.listing.specs.Text.{two_digits};
-ghost use Rattle.rows.specs.Rows.{is_labelled};
+ghost use Rattle.rows.specs.Rows.{is_labelled, label_bytes};
 ghost use Rattle.simulate.specs.Tables.{at_right, word_of};
 
 use rows::row::Label;
 use std::alloc::AllocError;
 
-// Puts a row's number, which has two digits, and two spaces.
-pub(crate) fn put_number(text: &mut String, k: u8) -> Result<(), AllocError>
-    requires { k < 100 }
-    ensures { OnOk result (string_bytes text.new ≡ string_bytes text.old ++ (two_digits k ++ codes "  ")) }
+// Puts a row's number, which has two digits, two spaces and the row's label.
+pub(crate) fn put_row_head(text: &mut String, k: u8, label: Label) -> Result<(), AllocError>
+    requires { (k < 100) × (is_labelled label ≡ true) }
+    ensures { OnOk result (string_bytes text.new ≡ string_bytes text.old ++ (two_digits k ++ (codes "  " ++ label_bytes label))) }
 {
-    write!(text, "{k:02}  ")
-}
-
-// Puts the four bytes of a label.
-pub(crate) fn put_label(text: &mut String, label: Label) -> Result<(), AllocError>
-    requires { is_labelled label ≡ true }
-    ensures { OnOk result (string_bytes text.new ≡ string_bytes text.old ++ label_text label) }
-{
-    put_byte(text, label.first)?;
-    put_byte(text, label.second)?;
-    put_byte(text, label.third)?;
-    put_byte(text, label.fourth)?;
-    Ok(())
-}
-
-// Puts a character of a single byte behind a text.
-fn put_byte(text: &mut String, byte: u8) -> Result<(), AllocError>
-    requires { byte < 128 }
-    ensures { OnOk result (string_bytes text.new ≡ string_bytes text.old ++ (byte ∷ [])) }
-{
-    text.push(byte as char)
+    write!(text, "{k:02}  {label}")
 }
 
 // Puts a figure, or a dash for none, at the right of a field, with a space before it.
