@@ -11,7 +11,7 @@ mod step;
 
 // What a step answers: its number, the row on each resource, and the row that finished with its response, the steps from
 // its admission to the end of this step.
-#[derive(Clone, Copy, PartialEq, Eq, Debug)]
+#[derive(Clone, Copy, Default, PartialEq, Eq, Debug)]
 pub struct Answer {
     pub step: u32,
     pub memory: Option<u8>,

@@ -1,5 +1,4 @@
-ghost use Rattle.std.specs.Prelude.{◌≡◌, ◌≤◌, length};
-
+use arrayvec::ArrayVec;
 use board::run::Answer;
 
 mod rules;
@@ -7,8 +6,5 @@ mod rules;
 // The answers of the first 64 steps of a run.
 #[derive(Drop)]
 pub(crate) struct Timeline {
-    answers: [Answer; 64],
-    count: u8,
-    ghost full: { length answers ≡ 64 },
-    ghost few: { count ≤ 64 },
+    answers: ArrayVec<Answer, 64>,
 }

@@ -2,6 +2,7 @@ ghost use Rattle.std.specs.Prelude.{◌≡◌, ◌≤◌, [], length};
 ghost use Rattle.simulate.specs.Timelines.{answers_in, joined};
 
 use super::Timeline;
+use arrayvec::ArrayVec;
 use board::run::Answer;
 
 impl Timeline {
@@ -9,15 +10,8 @@ impl Timeline {
     pub(crate) fn new() -> Timeline
         ensures { answers_in result ≡ [] }
     {
-        let blank = Answer {
-            step: 0,
-            memory: None,
-            processor: None,
-            finished: None,
-        };
         Timeline {
-            answers: [blank; 64],
-            count: 0,
+            answers: ArrayVec::new(),
         }
     }
 
@@ -25,16 +19,13 @@ impl Timeline {
     pub(crate) fn note(&mut self, answer: &Answer)
         ensures { answers_in self.new ≡ joined (answers_in self.old) answer.now }
     {
-        if self.count < 64 {
-            self.answers[self.count as usize] = *answer;
-            self.count += 1;
-        }
+        let _ = self.answers.try_push(*answer);
     }
 
     pub(crate) fn answers(&self) -> &[Answer]
         ensures value { result.now ≡ answers_in self.now }
         ensures few { length result.now ≤ 64 }
     {
-        &self.answers[0..self.count as usize]
+        self.answers.as_slice()
     }
 }
