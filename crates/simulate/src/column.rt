@@ -4,7 +4,7 @@ ghost use Rattle.simulate.specs.Tables.{figure_of, head_of};
 use crate::tally::Tally;
 
 // The columns of the table behind a row's number and label.
-// Stays: (d) a column as a pair of head and closure takes eight closures with a contract each for what eight arms say here.
+// Stays: a column as a pair of head and closure takes eight closures with a contract each for what eight arms say here.
 #[derive(Clone, Copy)]
 pub(crate) enum Column {
     Admitted,

@@ -1,11 +1,10 @@
 ghost use Rattle.std.specs.Prelude.{◌≡◌, ℕ, ◌<◌, ◌≤◌, true, false, length};
 ghost use Rattle.feeds.specs.Clocks.{Has, entry_of};
 ghost use Rattle.feeds.specs.Fits.{Fitting};
-ghost use Rattle.layers.specs.Cuts.{CeilingsSet, cut_off_view};
-ghost use Rattle.layers.specs.Gates.{DistanceSet, gate_view};
+ghost use Rattle.layers.specs.Cuts.{cut_off_view};
+ghost use Rattle.layers.specs.Gates.{gate_view};
 ghost use Rattle.rating.specs.Bounds.{row_of};
 ghost use Rattle.rows.specs.Drafts.{rows_of};
-ghost use Rattle.rows.specs.Rows.{Valid};
 ghost use Rattle.simulate.specs.Piles.{CutTo, SpacedBy};
 
 use feeds::clockwork::Clockwork;
@@ -17,7 +16,6 @@ use layers::gate::Gate;
 use rating::order::{ByMemoryRank, ByProcessorRank};
 use rating::rating::close;
 use rows::draft::Draft;
-use rows::row::Row;
 
 // The arrivals of a draft at full cost, at once and then at each row's period; and the draft again.
 pub(crate) fn clockwork(draft: Draft) -> (Draft, Clockwork)
@@ -41,44 +39,28 @@ pub(crate) fn guarded<F: Feed>(below: F, draft: &Draft) -> Gate<CutOff<F>>
 }
 
 // A cut-off over a feed at the costs of each row of a draft.
-// Stays: (d) one walk for cut and space takes a trait of layers set by a row, whose laws repeat both clauses, and two impls.
+// Stays: one walk for cut and space takes a trait of layers set by a row, whose laws repeat both clauses, and two impls.
 fn cut<F: Feed>(below: F, draft: &Draft) -> CutOff<F>
     ensures { CutTo (rows_of draft.now) below result }
 {
+    let marks = Mark::all();
     let rows = draft.rows();
     let mut layer = CutOff::new(below);
     for (i, row) in rows.iter().enumerate() {
-        cut_row(&mut layer, i as u8, row);
+        let _ = layer.set(marks[i], row.memory, row.compute);
     }
     layer
-}
-
-fn cut_row<F: Feed>(layer: &mut CutOff<F>, k: u8, row: &Row)
-    requires { (k < 32) × (Valid row.now) }
-    ensures { CeilingsSet layer.old k row.now.memory row.now.compute layer.new }
-{
-    if let Ok(mark) = Mark::new(k) {
-        let _ = layer.set(mark, row.memory, row.compute);
-    }
 }
 
 // A gate over a feed at the period of each row of a draft.
 fn space<F: Feed>(below: F, draft: &Draft) -> Gate<F>
     ensures { SpacedBy (rows_of draft.now) below result }
 {
+    let marks = Mark::all();
     let rows = draft.rows();
     let mut layer = Gate::new(below);
     for (i, row) in rows.iter().enumerate() {
-        space_row(&mut layer, i as u8, row);
+        let _ = layer.set(marks[i], row.period);
     }
     layer
-}
-
-fn space_row<F: Feed>(layer: &mut Gate<F>, k: u8, row: &Row)
-    requires { (k < 32) × (Valid row.now) }
-    ensures { DistanceSet layer.old k row.now.period layer.new }
-{
-    if let Ok(mark) = Mark::new(k) {
-        let _ = layer.set(mark, row.period);
-    }
 }

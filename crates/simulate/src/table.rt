@@ -128,7 +128,7 @@ fn letter(row: Option<u8>) -> char
 }
 
 // The row that holds a resource in a step.
-// Stays: (d) the phase as a closure that reads the answer would have to be handed, with its contract, through two functions.
+// Stays: the phase as a closure that reads the answer would have to be handed, with its contract, through two functions.
 fn holder(phase: Phase, answer: &Answer) -> Option<u8>
     ensures { result ≡ holder_of phase answer.now }
 {
