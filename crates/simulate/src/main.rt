@@ -1,7 +1,7 @@
 #![tactic(auto)]
 
 ghost use Rattle.simulate.specs.Counts.{KeepsBounds, Simulated};
-ghost use Rattle.std.specs.Prelude.{OnOk};
+ghost use Rattle.std.specs.Prelude.{◌≤◌, IfOk, OnOk};
 
 use crate::beginning::begin;
 use crate::pile::clockwork;
@@ -144,11 +144,12 @@ fn print_listing<F: FnOnce(&mut [u8]) -> Result<usize, ListingFault>>(
     rt: &HostRuntime,
     list: F,
 ) -> io::Result<()>
-    requires { F.IsAlwaysCallable list }
+    requires callable { F.IsAlwaysCallable list }
+    requires short { (x : _) (r : _) (y : _) → F.post list x r y → IfOk r (λ n. n ≤ 1292) }
 {
     let mut out = [0; 1292];
     match list(&mut out) {
-        Ok(n) => rt.stdout().write_all(out.get(0..n).unwrap_or(&[])),
+        Ok(n) => rt.stdout().write_all(&out[..n]),
         Err(_) => Ok(()),
     }
 }
