@@ -5,7 +5,7 @@ use Rattle.rating.specs.Demands.{demanded, sources_of}
 use Rattle.rating.specs.Ranked.{ranked}
 use Rattle.rating.specs.Rankings.{front_of}
 use Rattle.rating.specs.Sources.{Sound}
-use Rattle.rating.proofs.Bases.{Base, ceiling_small, cost_small, demand_low, demand_more, demand_up, raised_small, source_cost}
+use Rattle.rating.proofs.Bases.{Base, ceiling_small, demand_low, demand_more, demand_up, raised_small, source_cost}
 use Rattle.rating.proofs.Phases.{bound_here, bounds_more, found-lent, length_sources_for, none_here, source_sound, sources_more, sources_for, turn}
 use Rattle.rating.proofs.Rankings.{permutes-lent}
 use Rattle.rating.proofs.ranked.RankedDraft.phase_bounds.Goals as goal
@@ -19,25 +19,6 @@ loop-k-init c = (
   omega arith,
   permutes-lent c.args.self.now c.args.phase _ _ c.rows-rows.ensures.value (c.rows-order.ensures ∙ ap ranked c.ranking.ensures),
 )
-
-pub bounds-rows-k : goal.bounds-rows-k
-bounds-rows-k c =
-    (turn _ _ _ c.loop-k.invariant.5 c.loop-k-test.true).within
-
-pub bounds-late-k : goal.bounds-late-k
-bounds-late-k c =
-    let t = turn _ _ _ c.loop-k.invariant.5 c.loop-k-test.true
-    in omega (arith, t.within, c.rows-rows.ensures.few)
-
-pub bounds-found-k : goal.bounds-found-k
-bounds-found-k c =
-    let t = turn _ _ _ c.loop-k.invariant.5 c.loop-k-test.true
-    in omega (arith, t.within, c.rows-rows.ensures.few)
-
-pub start-from-requires : goal.start-from-requires
-start-from-requires c =
-    let t = turn _ _ _ c.loop-k.invariant.5 c.loop-k-test.true
-    in (omega (arith, c.cost-own.ensures, cost_small c.args.phase _ (c.rows-rows.ensures.valid _ t.within)), c.loop-k.invariant.4)
 
 -- no solution is below the last bound and the own cost together
 pub least_from-requires : goal.least_from-requires
