@@ -1,4 +1,4 @@
-use Rattle.std.proofs.Common.{◌≡◌, ℕ, zero, suc, ◌+◌, ◌*◌, ◌^◌, ◌<◌, ◌≤◌, true, List, [], ◌∷◌, ◌++◌, length, get_or, take, sym, ap, ◌∙◌, subst, mul-le-mul, arith}
+use Rattle.std.proofs.Common.{◌≡◌, ℕ, ◌+◌, ◌*◌, ◌^◌, ◌<◌, ◌≤◌, true, List, [], ◌∷◌, ◌++◌, length, get_or, take, sym, ap, ◌∙◌, subst, mul-le-mul, arith}
 use Rattle.std.proofs.lemmas.List.{take_more}
 use Rattle.std.proofs.lemmas.Bool.Decides.{nat_tests}
 use Rattle.rating.specs.Demands.{sources_of}
@@ -27,14 +27,6 @@ sound-true s h = grind (arith, nat_tests)
 -- and of no other
 pub true_sound : (s : Source) → is_sound s ≡ true → Sound s
 true_sound s e = record { cheap = grind (arith, nat_tests); apart = grind (arith, nat_tests) }
-
--- a sound source behind those that are sound
-pub sound-added : (xs : List Source) (s : Source) → ((i : ℕ) → i < length xs → is_sound (get_or xs i blank) ≡ true) → Sound s
-    → (i : ℕ) → i < length (xs ++ s ∷ []) → is_sound (get_or (xs ++ s ∷ []) i blank) ≡ true
-sound-added [] s sound h zero low = sound-true s h
-sound-added [] s sound h (suc i) low = absurd (omega arith)
-sound-added (x ∷ xs) s sound h zero low = sound 0 (omega arith)
-sound-added (x ∷ xs) s sound h (suc i) low = sound-added xs s (λ j g. sound (suc j) (omega arith)) h i (omega arith)
 
 -- A loop over a demand's sources, which go by another name there.
 module _ (d : Demand) (xs : List Source) (lent : xs ≡ sources_of d) (i : ℕ) (within : i < length xs) where

@@ -1,4 +1,4 @@
-use Rattle.std.proofs.Common.{ℕ, ◌+◌, ◌-◌, ◌*◌, ◌<◌, ◌≤◌, div-lt_iff_lt-mul, add-mul, mul-le-mul_left, one-mul, mul-one, arith}
+use Rattle.std.proofs.Common.{ℕ, ◌+◌, ◌-◌, ◌*◌, ◌<◌, div-lt_iff_lt-mul, add-mul, one-mul, arith}
 use native.Mathlib.Nat.{lt-div-mul-add}
 use Rattle.rating.specs.Quotients.{RoundsUp, ceil}
 
@@ -11,8 +11,3 @@ ceil-law a b some = record {
       in let below : ceil a b < p + 1 = (div-lt_iff_lt-mul {k = b} {x = a + (b - 1)} {y = p + 1} some).1 more
       in omega arith;
 }
-
--- there are no more pieces than steps
-pub ceil-le : (a b : ℕ) → 0 < b → ceil a b ≤ a
-ceil-le a b some =
-    let one : a * 1 ≤ a * b = mul-le-mul_left a some in (ceil-law a b some).least a (omega (arith, mul-one a))

@@ -7,27 +7,6 @@ pub loop-source-init : goal.loop-source-init
 unfolding asked
 loop-source-init c = (omega arith, omega arith)
 
-pub rounded_up-jobs-requires : goal.rounded_up-jobs-requires
-rounded_up-jobs-requires c =
-    let at = sound_there c.args.self.now c.as_slice-source-items.result.now c.as_slice-source-items.ensures.value c.loop-source.source-index c.loop-source-test.true
-    in (omega (arith, at.apart), omega arith)
-
-pub overflow_mul-sum : goal.overflow_mul-sum
-overflow_mul-sum c =
-    let at = sound_there c.args.self.now c.as_slice-source-items.result.now c.as_slice-source-items.ensures.value c.loop-source.source-index c.loop-source-test.true
-    in omega (arith, jobs_small c.rounded_up-jobs.result _ c.rounded_up-jobs.ensures.small at.cheap)
-
-pub overflow_add-sum : goal.overflow_add-sum
-overflow_add-sum c =
-    let at = sound_there c.args.self.now c.as_slice-source-items.result.now c.as_slice-source-items.ensures.value c.loop-source.source-index c.loop-source-test.true
-    in omega (
-      arith,
-      jobs_small c.rounded_up-jobs.result _ c.rounded_up-jobs.ensures.small at.cheap,
-      c.loop-source.invariant.1,
-      c.loop-source-test.true,
-      c.as_slice-source-items.ensures.fits,
-    )
-
 -- one more source is in the sum
 pub loop-source-preserved : goal.loop-source-preserved
 loop-source-preserved c =
