@@ -3,7 +3,7 @@ use Rattle.std.proofs.lemmas.Bool.{cases_lt}
 use Rattle.std.proofs.lemmas.Bool.Decides.{eqb_tells}
 use Rattle.rows.specs.Rows.{Valid}
 use Rattle.rows.specs.declared.row.Row.{Row}
-use Rattle.rating.specs.Bounds.{ceiling_of, cost_of, raised_to, source_of, start_of}
+use Rattle.rating.specs.Bounds.{ceiling_of, cost_of, raised_to, source_of}
 use Rattle.rating.specs.Curves.{LeastAt, LeastSolution}
 use Rattle.rating.specs.Demands.{demanded, sources_of}
 use Rattle.rating.specs.Quotients.{ceil}
@@ -35,25 +35,6 @@ below-least f rises r l (suc fuel) v small h =
                 in let up = below-least f rises r l fuel (f v) (omega arith) (omega arith)
                 in absurd (omega arith))
           ]
-    ]
-
--- Where a search may start.
-pub start_low : (sources : List Source) (own b : ℕ) → Base sources b → (v : ℕ) → own + asked sources v ≡ v → start_of own b ≤ v
-start_low sources own b base v e =
-    elim (eqb_tells own 0) [
-      | inl none ↦ rw none.0 (omega arith)
-      | inr some ↦ rw some.0 (
-          elim (cases_lt v b) [
-            | inl less ↦ absurd (omega (arith, some.1, e, base.below v (omega (arith, some.1, e)) less))
-            | inr more ↦ omega (arith, e, base.above v (omega (arith, some.1, e)) more)
-          ])
-    ]
-
-pub start_up : (sources : List Source) (own b : ℕ) → Base sources b → start_of own b ≤ own + asked sources (start_of own b)
-start_up sources own b base =
-    elim (eqb_tells own 0) [
-      | inl none ↦ rw none.0 (omega arith)
-      | inr some ↦ rw some.0 (omega (arith, base.above (b + own) (omega (arith, some.1)) (omega arith)))
     ]
 
 -- in any length but 0 a source asks for its cost at least
@@ -102,12 +83,6 @@ module _ (sources : List Source) (s : Source) (own b w : ℕ) (cost : s.cost ≡
 module _ (d : Demand) (sources : List Source) (own b : ℕ) (costs : d.own ≡ own) (has : sources_of d ≡ sources) (base : Base sources b) where
   work_is : (v : ℕ) → (demanded d).work v ≡ own + asked sources v
   work_is v = ap (λ x. x + asked (sources_of d) v) costs ∙ ap (λ xs. own + asked xs v) has
-
-  pub demand_low : (from : ℕ) → from ≡ start_of own b → (v : ℕ) → (demanded d).work v ≡ v → from ≤ v
-  demand_low from is v e = rw is (start_low sources own b base v (sym (work_is v) ∙ e))
-
-  pub demand_up : (from : ℕ) → from ≡ start_of own b → from ≤ (demanded d).work from
-  demand_up from is = rw is (rw (work_is (start_of own b)) (start_up sources own b base))
 
   pub demand_more : (s : Source) (top w raised : ℕ) → s.cost ≡ own → 1 ≤ s.period → LeastAt (demanded d).work top w → raised ≡ raised_to own b w
       → Base (sources ++ s ∷ []) raised

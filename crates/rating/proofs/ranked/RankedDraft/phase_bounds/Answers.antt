@@ -1,12 +1,11 @@
-use Rattle.std.proofs.Common.{◌≡◌, ◌≤◌, [], ◌∷◌, ◌++◌, length, get_or, take, Some, Ok, Err, refl, rules, sym, ap, ◌∙◌, subst, arith, length-set}
+use Rattle.std.proofs.Common.{◌≡◌, ◌≤◌, [], ◌∷◌, ◌++◌, get_or, take, Some, Ok, Err, refl, rules, sym, ap, ◌∙◌, subst, arith, length-set}
 use Rattle.rating.specs.Bounds.{bound_of, figure_at}
 use Rattle.rating.specs.Curves.{least_within}
 use Rattle.rating.specs.Demands.{demanded, sources_of}
 use Rattle.rating.specs.Ranked.{ranked}
 use Rattle.rating.specs.Rankings.{front_of}
-use Rattle.rating.specs.Sources.{Sound}
-use Rattle.rating.proofs.Bases.{Base, ceiling_small, demand_low, demand_more, demand_up, raised_small, source_cost}
-use Rattle.rating.proofs.Phases.{bound_here, bounds_more, found-lent, length_sources_for, none_here, source_sound, sources_more, sources_for, turn}
+use Rattle.rating.proofs.Bases.{Base, ceiling_small, demand_more, raised_small, source_cost}
+use Rattle.rating.proofs.Phases.{bound_here, bounds_more, found-lent, none_here, source_sound, sources_more, sources_for, turn}
 use Rattle.rating.proofs.Rankings.{permutes-lent}
 use Rattle.rating.proofs.ranked.RankedDraft.phase_bounds.Goals as goal
 
@@ -19,34 +18,6 @@ loop-k-init c = (
   omega arith,
   permutes-lent c.args.self.now c.args.phase _ _ c.rows-rows.ensures.value (c.rows-order.ensures ∙ ap ranked c.ranking.ensures),
 )
-
--- no solution is below the last bound and the own cost together
-pub least_from-requires : goal.least_from-requires
-least_from-requires c = record {
-  low =
-      demand_low c.own_cost.new.self (sources_of c.loop-k.demand) c.cost-own.result c.loop-k.base c.own_cost.ensures.own c.own_cost.ensures.sources
-      c.loop-k.invariant.3 c.start-from.result c.start-from.ensures;
-  up =
-      demand_up c.own_cost.new.self (sources_of c.loop-k.demand) c.cost-own.result c.loop-k.base c.own_cost.ensures.own c.own_cost.ensures.sources
-      c.loop-k.invariant.3 c.start-from.result c.start-from.ensures;
-}
-
-pub add-requires : goal.add-requires
-add-requires c =
-    let rs = c.rows-order.result.now
-    in let t = turn c.rows-rows.result.now rs c.loop-k.k-index c.loop-k.invariant.5 c.loop-k-test.true
-    in let late = figure_at c.args.late.now
-    in record {
-      room =
-          omega (
-            arith,
-            ap length (c.own_cost.ensures.sources ∙ c.loop-k.invariant.1),
-            length_sources_for c.args.phase c.rows-rows.result.now late rs c.loop-k.k-index t,
-            t.place,
-            c.rows-rows.ensures.few,
-          );
-      sound = subst Sound (sym c.source.ensures) (source_sound c.args.phase _ (late (get_or rs c.loop-k.k-index 0)) (c.rows-rows.ensures.valid _ t.within));
-    }
 
 -- the bound found is written down, and the row joins the sources
 pub loop-k-preserved : goal.loop-k-preserved
