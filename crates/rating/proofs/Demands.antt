@@ -20,11 +20,7 @@ unfolding asked
 asked-more xs i d w h =
     ap (λ ys. asked ys w) (take_more xs i d h) ∙ asked-append (take i xs) (get_or xs i d ∷ []) w ∙ omega arith
 
--- the test is true of a sound source
-pub sound-true : (s : Source) → Sound s → is_sound s ≡ true
-sound-true s h = grind (arith, nat_tests)
-
--- and of no other
+-- a source of which the test is true is sound
 pub true_sound : (s : Source) → is_sound s ≡ true → Sound s
 true_sound s e = record { cheap = grind (arith, nat_tests); apart = grind (arith, nat_tests) }
 

@@ -1,5 +1,5 @@
 use Rattle.std.proofs.Common.{◌≡◌, ℕ, ◌+◌, ◌*◌, ◌<◌, ◌≤◌, List, [], ◌∷◌, ◌++◌, map, length, get_or, take, set, is_some, Some, None, Result, sym, refl, ap, ◌∙◌, add-zero, arith, below_more}
-use Rattle.std.proofs.lemmas.List.{get_or-set_other, get_or-set_same, length-map, length-take-le, map_more}
+use Rattle.std.proofs.lemmas.List.{get_or-set_other, get_or-set_same, map_more}
 use Rattle.rows.specs.Rows.{Valid}
 use Rattle.rows.specs.declared.row.Row.{Row}
 use Rattle.rating.specs.Bounds.{Found, bound_of, ceiling_of, cost_of, figure_at, first_none, memory_asked, processor_asked, row_of, source_of, work_of}
@@ -80,9 +80,6 @@ module _ (phase : Phase) (rows : List Row) (late : ℕ → ℕ) (rs : List ℕ) 
 
   pub sources_more : sources_for phase rows late (take p rs) ++ source_for phase rows late (get_or rs p 0) ∷ [] ≡ sources_for phase rows late (take (p + 1) rs)
   sources_more = sym (map_more (source_for phase rows late) rs p 0 (omega (arith, t.place, t.permutes.long)))
-
-  pub length_sources_for : length (sources_for phase rows late (take p rs)) ≡ p
-  length_sources_for = length-map (take p rs) (source_for phase rows late) ∙ length-take-le p rs (omega (arith, t.place, t.permutes.long))
 
   -- the bounds found stay, and one comes to them
   pub bounds_more : (found : List ℕ) (w : ℕ) → length found ≡ 32 → length rows ≤ 32
