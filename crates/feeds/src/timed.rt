@@ -5,15 +5,17 @@ ghost use Rattle.std.specs.Prelude.{◌≡◌};
 pub trait Timed {
     ghost later: { Self → Self };
 
-    // What it is one step later.
-    fn later(self) -> Self
-        ensures { result ≡ later self };
+    // Goes on by one step, in its place: a table of many is not copied.
+    fn pass(&mut self)
+        ensures { self.new ≡ later self.old };
 }
 
 impl<T: Timed> Timed for Option<T> {
     ghost later = { option_map T.later };
 
-    fn later(self) -> Option<T> {
-        self.map(T::later)
+    fn pass(&mut self) {
+        if let Some(value) = self {
+            value.pass();
+        }
     }
 }

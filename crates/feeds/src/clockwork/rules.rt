@@ -15,11 +15,8 @@ use crate::timed::Timed;
 impl Timed for Beat {
     ghost later = { beat_later };
 
-    fn later(self) -> Beat {
-        Beat {
-            rest: self.rest.saturating_sub(1),
-            ..self
-        }
+    fn pass(&mut self) {
+        self.rest = self.rest.saturating_sub(1);
     }
 }
 

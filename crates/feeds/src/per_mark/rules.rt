@@ -31,13 +31,13 @@ impl<T: Copy> PerMark<T> {
     }
 }
 
-impl<T: Timed + Copy> PerMark<T> {
+impl<T: Timed> PerMark<T> {
     // Goes on by one step: each value becomes what it is one step later.
     pub fn advance(&mut self)
         ensures { self.new.entries ≡ map T.Timed.later self.old.entries }
     {
         for own in &mut self.entries {
-            *own = own.later();
+            own.pass();
         }
     }
 }

@@ -18,11 +18,8 @@ const LETTER: u8 = b'G';
 impl Timed for Spacing {
     ghost later = { spacing_later };
 
-    fn later(self) -> Spacing {
-        Spacing {
-            rest: self.rest.saturating_sub(1),
-            ..self
-        }
+    fn pass(&mut self) {
+        self.rest = self.rest.saturating_sub(1);
     }
 }
 

@@ -16,11 +16,8 @@ pub(crate) struct Place {
 impl Timed for Place {
     ghost later = { lower };
 
-    fn later(self) -> Place {
-        Place {
-            rest: self.rest.saturating_sub(1),
-            ..self
-        }
+    fn pass(&mut self) {
+        self.rest = self.rest.saturating_sub(1);
     }
 }
 
