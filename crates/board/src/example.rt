@@ -39,27 +39,9 @@ fn book_a_draft() -> Result<Draft, EditFault>
     ensures { DraftMade result }
 {
     let mut draft = Draft::new();
-    let tags = Label {
-        first: b'T',
-        second: b'A',
-        third: b'G',
-        fourth: b'S',
-    };
-    let cent = Label {
-        first: b'C',
-        second: b'E',
-        third: b'N',
-        fourth: b'T',
-    };
-    let dark = Label {
-        first: b'D',
-        second: b'A',
-        third: b'R',
-        fourth: b'K',
-    };
-    draft.add(task(tags, 9, 1, 20, 1))?;
-    draft.add(task(cent, 1, 9, 24, 0))?;
-    draft.add(task(dark, 5, 5, 35, 2))?;
+    draft.add(task(Label::from(*b"TAGS"), 9, 1, 20, 1))?;
+    draft.add(task(Label::from(*b"CENT"), 1, 9, 24, 0))?;
+    draft.add(task(Label::from(*b"DARK"), 5, 5, 35, 2))?;
     Ok(draft)
 }
 

@@ -1,4 +1,4 @@
-ghost use Rattle.std.specs.Prelude.{◌≡◌, ◌<◌, length};
+ghost use Rattle.std.specs.Prelude.{◌≡◌, length};
 ghost use Rattle.board.specs.Rules.{Entered, EnteredAt};
 ghost use Rattle.board.specs.Runs.{rows_in};
 ghost use Rattle.schedule.specs.Places.{job};
@@ -28,23 +28,20 @@ impl<A, B, P: Feed> Run<A, B, P> {
         ensures { Entered P.Pledge.view (length (rows_in self.old)) self.old self.new }
     {
         let count = self.rating.rows().len();
-        for k in 0..count {
-            self.admit_row(k as u8);
+        for mark in &Mark::all()[..count] {
+            self.admit_row(*mark);
         }
     }
 
     // The first rule at one row.
-    fn admit_row(&mut self, k: u8)
-        requires { k < 32 }
-        ensures { EnteredAt P.Pledge.view k self.old self.new }
+    fn admit_row(&mut self, mark: Mark)
+        ensures { EnteredAt P.Pledge.view mark.value self.old self.new }
     {
-        let Ok(mark) = Mark::new(k) else {
-            return;
-        };
-        if let Slot::Empty = self.places[k as usize]
+        let k = mark.index();
+        if let Slot::Empty = self.places[k]
             && let Some(offer) = self.pile.take(mark)
         {
-            self.places[k as usize] = admitted(offer, self.number);
+            self.places[k] = admitted(offer, self.number);
         }
     }
 }
