@@ -58,12 +58,11 @@ fn takes_step<F: Feed>(
     step: u32,
     left: &mut Iter<'_, (u32, u8, u32, u32)>,
 ) -> Result<(), Fail> {
-    for i in 0..32 {
-        let k = Mark::new(i)?;
+    for k in Mark::all() {
         let offer = feed.look(k);
         assert_eq!(rt; feed.take(k), offer, "case {case}");
         if let Some((memory, processor)) = offer {
-            let taking = (step, i, memory, processor);
+            let taking = (step, k.index() as u8, memory, processor);
             assert_eq!(rt; left.next().copied(), Some(taking), "case {case}");
         }
     }

@@ -20,14 +20,8 @@ fn task(memory: u32, compute: u32, deadline: u32, period: u32) -> Row {
         compute,
         deadline,
         period,
-        memory_rank: 0,
-        processor_rank: 0,
-        label: Label {
-            first: b'T',
-            second: b'A',
-            third: b'S',
-            fourth: b'K',
-        },
+        label: Label::from(*b"TASK"),
+        ..Row::default()
     }
 }
 

@@ -4,22 +4,16 @@ use feeds::mark::Mark;
 use feeds::pledge::Pledge;
 use lists::list::List;
 use lists::records::check_list;
-use lists::records::fault::{CheckFault, ListFault};
+use lists::records::fault::CheckFault;
+use rows::fault::Refusal;
 use std::alloc::{AllocError, Global};
 use std::test::Fail;
 
 // What the list check tells: the fault's number, 0 for none, and the record at fault or the count of records.
 fn told(answer: Result<usize, CheckFault>) -> (u8, Option<usize>) {
-    match answer {
+    match answer.map_err(Refusal::from) {
         Ok(count) => (0, Some(count)),
-        Err(fault) => (fault.number(), faulty_record(fault)),
-    }
-}
-
-fn faulty_record(fault: CheckFault) -> Option<usize> {
-    match fault {
-        CheckFault::List(ListFault::Length) => None,
-        CheckFault::List(ListFault::Record(bad)) => Some(bad.number),
+        Err(Refusal { number, record }) => (number, record),
     }
 }
 
