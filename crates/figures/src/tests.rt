@@ -8,33 +8,25 @@ mod listings;
 mod single;
 
 // A row with both ranks 0.
+// Stays: one for this crate, feed_tests and board_tests would be a public function of one more crate, with a contract.
 fn task(memory: u32, compute: u32, deadline: u32, period: u32, label: Label) -> Row {
     Row {
         memory,
         compute,
         deadline,
         period,
-        memory_rank: 0,
-        processor_rank: 0,
         label,
+        ..Row::default()
     }
 }
 
 // A label that shows but for one byte, which may be any.
 fn label_with(place: u8, byte: u8) -> Label {
-    let mut label = Label {
-        first: b'T',
-        second: b'A',
-        third: b'G',
-        fourth: b'S',
-    };
-    match place {
-        0 => label.first = byte,
-        1 => label.second = byte,
-        2 => label.third = byte,
-        _ => label.fourth = byte,
+    let mut bytes = *b"TAGS";
+    if let Some(spot) = bytes.get_mut(place as usize) {
+        *spot = byte;
     }
-    label
+    Label::from(bytes)
 }
 
 // A valid row for each i up to 98, and no two of them are the same.
@@ -45,6 +37,14 @@ fn nth(i: u8) -> Row {
 // A row whose costs are above its deadline, so that its fault is 14.
 fn too_costly() -> Row {
     task(99, 1, 99, 99, label_with(0, b'T'))
+}
+
+// The number of a row's or a draft's fault, 0 for none.
+fn fault_of<T: Drop, F: Drop>(res: Result<T, F>) -> u8
+where
+    EditFault: From<F>,
+{
+    res.err().map_or(0, |fault| EditFault::from(fault).number())
 }
 
 // A draft of the first n rows.

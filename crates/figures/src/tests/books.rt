@@ -1,6 +1,6 @@
 use super::filled;
 use rows::draft::Draft;
-use rows::fault::{BadRecord, BookFault, DraftFault, LoadFault, RecordFault, RowFault};
+use rows::fault::{BadRecord, BookFault, DraftFault, LoadFault, RecordFault, Refusal, RowFault};
 use rows::row::{Label, Row};
 use std::alloc::{AllocError, Global};
 use std::process::Abort;
@@ -30,17 +30,11 @@ fn write(bytes: &mut Vec<u8>, place: usize, value: u8) {
 }
 
 // What a load tells: its fault's number, 0 for none, and the record that has the fault.
+// Stays: feed_tests tells a list's check the same way, but that it also tells the count of records; sharing takes a crate.
 fn told(res: Result<(), LoadFault>) -> (u8, Option<usize>) {
-    match res {
+    match res.map_err(Refusal::from) {
         Ok(()) => (0, None),
-        Err(fault) => (fault.number(), faulty_record(fault)),
-    }
-}
-
-fn faulty_record(fault: LoadFault) -> Option<usize> {
-    match fault {
-        LoadFault::Book(BookFault::Length) => None,
-        LoadFault::Book(BookFault::Record(bad)) => Some(bad.number),
+        Err(Refusal { number, record }) => (number, record),
     }
 }
 
@@ -58,12 +52,7 @@ fn big_endian(rt: HostRuntime) -> Result<(), Fail> {
         period: 395_016,
         memory_rank: 9,
         processor_rank: 10,
-        label: Label {
-            first: b'C',
-            second: b'E',
-            third: b'N',
-            fourth: b'T',
-        },
+        label: Label::from(*b"CENT"),
     };
     assert_eq!(rt; draft.row(0), Ok(wanted));
     Ok(())

@@ -1,18 +1,7 @@
-use super::{filled, nth, too_costly};
+use super::{fault_of, filled, nth, too_costly};
 use rows::draft::Draft;
-use rows::fault::{DraftFault, EditFault};
 use rows::row::Row;
 use std::test::Fail;
-
-// The number of an edit's fault, 0 for none.
-fn edit_fault(res: Result<(), EditFault>) -> u8 {
-    res.err().map_or(0, |fault| fault.number())
-}
-
-// The number of a draft's fault, 0 for none.
-fn draft_fault(res: Result<Row, DraftFault>) -> u8 {
-    res.err().map_or(0, |fault| fault.number())
-}
 
 // A row is added up to 32; a full draft is told before the row's own fault.
 #[test]
@@ -29,7 +18,7 @@ fn add(rt: HostRuntime) -> Result<(), Fail> {
     for (n, valid, fault, after) in cases {
         let mut draft = filled(n)?;
         let row = if valid { nth(n) } else { too_costly() };
-        assert_eq!(rt; edit_fault(draft.add(row)), fault, "to {n} rows");
+        assert_eq!(rt; fault_of(draft.add(row)), fault, "to {n} rows");
         assert!(rt; draft.rows() == filled(after)?.rows(), "to {n} rows");
     }
     Ok(())
@@ -53,7 +42,7 @@ fn change(rt: HostRuntime) -> Result<(), Fail> {
     for (n, i, valid, fault) in cases {
         let mut draft = filled(n)?;
         let row = if valid { nth(50) } else { too_costly() };
-        assert_eq!(rt; edit_fault(draft.change(i, row)), fault, "{i} of {n}");
+        assert_eq!(rt; fault_of(draft.change(i, row)), fault, "{i} of {n}");
         let wanted = |k| nth(if fault == 0 && k == i { 50 } else { k });
         assert!(rt; has_rows(&draft, n, wanted), "{i} of {n}");
     }
@@ -86,7 +75,7 @@ fn remove(rt: HostRuntime) -> Result<(), Fail> {
     for (n, i, fault) in cases {
         let mut draft = filled(n)?;
         let gone = draft.remove(i);
-        assert_eq!(rt; draft_fault(gone), fault, "{i} of {n}");
+        assert_eq!(rt; fault_of(gone), fault, "{i} of {n}");
         if fault == 0 {
             let wanted = |k: u8| nth(if k < i { k } else { k.saturating_add(1) });
             assert!(rt; gone == Ok(nth(i)), "{i} of {n}");
@@ -113,7 +102,7 @@ fn read(rt: HostRuntime) -> Result<(), Fail> {
     ];
     for (n, i, fault) in cases {
         let draft = filled(n)?;
-        assert_eq!(rt; draft_fault(draft.row(i)), fault, "{i} of {n}");
+        assert_eq!(rt; fault_of(draft.row(i)), fault, "{i} of {n}");
         assert!(rt; fault != 0 || draft.row(i) == Ok(nth(i)), "{i} of {n}");
     }
     Ok(())

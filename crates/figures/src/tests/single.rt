@@ -1,11 +1,5 @@
-use super::{label_with, task};
-use rows::row::Row;
+use super::{fault_of, label_with, task};
 use std::process::Abort;
-
-// The number of a row's first fault, 0 for none.
-fn fault_of(row: Row) -> u8 {
-    row.check().err().map_or(0, |fault| fault.number())
-}
 
 // Figures of a row, and its fault.
 #[test]
@@ -31,7 +25,7 @@ fn figures(rt: HostRuntime) {
     ];
     for (memory, compute, deadline, period, fault) in cases {
         let row = task(memory, compute, deadline, period, label_with(0, b'T'));
-        assert_eq!(rt; fault_of(row), fault, "{row:?}");
+        assert_eq!(rt; fault_of(row.check()), fault, "{row:?}");
     }
 }
 
@@ -51,7 +45,7 @@ fn first_fault(rt: HostRuntime) {
     ];
     for (memory, compute, deadline, period, byte, fault) in cases {
         let row = task(memory, compute, deadline, period, label_with(2, byte));
-        assert_eq!(rt; fault_of(row), fault, "{row:?}");
+        assert_eq!(rt; fault_of(row.check()), fault, "{row:?}");
     }
 }
 
@@ -74,6 +68,6 @@ fn label_bytes_at(rt: &impl Abort, place: u8) {
     ];
     for (byte, fault) in cases {
         let row = task(2, 3, 5, 5, label_with(place, byte));
-        assert_eq!(rt; fault_of(row), fault, "byte {byte} at {place}");
+        assert_eq!(rt; fault_of(row.check()), fault, "byte {byte} at {place}");
     }
 }
