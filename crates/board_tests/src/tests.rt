@@ -14,29 +14,8 @@ mod edges;
 mod random;
 mod rules;
 
-const TAGS: Label = Label {
-    first: b'T',
-    second: b'A',
-    third: b'G',
-    fourth: b'S',
-};
-
-const CENT: Label = Label {
-    first: b'C',
-    second: b'E',
-    third: b'N',
-    fourth: b'T',
-};
-
-const DARK: Label = Label {
-    first: b'D',
-    second: b'A',
-    third: b'R',
-    fourth: b'K',
-};
-
 // A row with one rank for both resources.
-fn task(memory: u32, compute: u32, deadline: u32, period: u32, rank: u8, label: Label) -> Row {
+fn task(memory: u32, compute: u32, deadline: u32, period: u32, rank: u8, label: &[u8; 4]) -> Row {
     Row {
         memory,
         compute,
@@ -44,7 +23,7 @@ fn task(memory: u32, compute: u32, deadline: u32, period: u32, rank: u8, label: 
         period,
         memory_rank: rank,
         processor_rank: rank,
-        label,
+        label: Label::from(*label),
     }
 }
 
@@ -60,9 +39,9 @@ fn drafted(rows: &[Row]) -> Result<Draft, EditFault> {
 // Book A with these ranks: 1, 0 and 2 are its own.
 fn book_a_ranked(tags: u8, cent: u8, dark: u8) -> Result<Draft, EditFault> {
     drafted(&[
-        task(9, 1, 20, 20, tags, TAGS),
-        task(1, 9, 24, 24, cent, CENT),
-        task(5, 5, 35, 35, dark, DARK),
+        task(9, 1, 20, 20, tags, b"TAGS"),
+        task(1, 9, 24, 24, cent, b"CENT"),
+        task(5, 5, 35, 35, dark, b"DARK"),
     ])
 }
 

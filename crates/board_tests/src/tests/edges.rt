@@ -1,4 +1,4 @@
-use super::{TAGS, book_a_ranked, drafted, first_responses, regular, shows, task};
+use super::{book_a_ranked, drafted, first_responses, regular, shows, task};
 use board::fault::StepFault;
 use board::run::{Answer, Run, Slot};
 use feeds::clockwork::Clockwork;
@@ -32,9 +32,7 @@ fn no_rows(rt: HostRuntime) -> Result<(), Fail> {
     for step in 0..32 {
         let idle = Answer {
             step,
-            memory: None,
-            processor: None,
-            finished: None,
+            ..Answer::default()
         };
         assert_eq!(rt; run.number(), step);
         assert_eq!(rt; run.step()?, idle);
@@ -78,7 +76,7 @@ fn unfit(rt: HostRuntime) -> Result<(), Fail> {
     let mut clock = Clockwork::new();
     clock.set(Mark::new(0)?, 0, 2, 3, 4)?;
     let rating = close(
-        drafted(&[task(1, 1, 5, 5, 0, TAGS)])?,
+        drafted(&[task(1, 1, 5, 5, 0, b"TAGS")])?,
         ByMemoryRank,
         ByProcessorRank,
     );

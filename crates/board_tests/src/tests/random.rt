@@ -1,4 +1,3 @@
-use super::TAGS;
 use dice::Dice;
 use feeds::clockwork::Clockwork;
 use feeds::feed::Feed;
@@ -11,7 +10,7 @@ use rating::rating::{Rating, close};
 use rating::verdict::Verdict;
 use rows::draft::Draft;
 use rows::fault::EditFault;
-use rows::row::Row;
+use rows::row::{Label, Row};
 use std::alloc::Global;
 use std::process::Abort;
 use std::test::*;
@@ -35,7 +34,7 @@ fn row(dice: &mut Dice, cost: u32, slack: u32) -> Row {
         period,
         memory_rank: dice.byte() % 16,
         processor_rank: dice.byte() % 16,
-        label: TAGS,
+        label: Label::from(*b"TAGS"),
     }
 }
 

@@ -1,10 +1,10 @@
-use super::{TAGS, book_a_ranked, regular, shows};
+use super::{book_a_ranked, regular, shows};
 use board::run::{Run, Slot};
 use feeds::clockwork::Clockwork;
 use feeds::mark::Mark;
 use rating::order::{ByMemoryRank, ByProcessorRank};
 use rows::draft::Draft;
-use rows::row::Row;
+use rows::row::{Label, Row};
 use std::process::Abort;
 use std::test::*;
 
@@ -21,8 +21,10 @@ fn runs(
 ) -> Result<(), Fail> {
     let mut draft = Draft::new();
     let mut clock = Clockwork::new();
-    for (offset, m, c, period, memory_rank, processor_rank) in rows {
-        let k = Mark::new(draft.count())?;
+    for (k, (offset, m, c, period, memory_rank, processor_rank)) in Mark::all()
+        .into_iter()
+        .zip(rows)
+    {
         draft.add(Row {
             memory: *m,
             compute: *c,
@@ -30,7 +32,7 @@ fn runs(
             period: *period,
             memory_rank: *memory_rank,
             processor_rank: *processor_rank,
-            label: TAGS,
+            label: Label::from(*b"TAGS"),
         })?;
         clock.set(k, *offset, *period, *m, *c)?;
     }

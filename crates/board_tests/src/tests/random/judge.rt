@@ -65,12 +65,11 @@ impl<R: Abort> Judge<'_, R> {
     fn entered<A, B, P: Feed>(&self, run: &Run<A, B, P>, twin: &mut P) -> Result<[Slot; 32], Fail> {
         let (rt, seed) = (self.rt, self.seed);
         let mut places = [Slot::Empty; 32];
-        for (k, held) in (0..32u8).zip(&mut places) {
-            if let Some(place) = run.place(k) {
-                let mark = Mark::new(k)?;
-                let offer = twin.look(mark);
-                *held = arrived(seed, place, offer, run.number())?;
-                assert_eq!(rt; twin.take(mark), offer, "seed {seed}");
+        for k in Mark::all() {
+            if let Some(place) = run.place(k.index() as u8) {
+                let offer = twin.look(k);
+                places[k.index()] = arrived(seed, place, offer, run.number())?;
+                assert_eq!(rt; twin.take(k), offer, "seed {seed}");
             }
         }
         Ok(places)

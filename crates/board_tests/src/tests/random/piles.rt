@@ -12,12 +12,12 @@ use std::test::*;
 // A clockwork that fits a rating and offers less than it may: offsets, longer intervals and lower costs.
 pub(super) fn fewer<A, B>(rating: &Rating<A, B>, mut dice: Dice) -> Result<Clockwork, Fail> {
     let mut clock = Clockwork::new();
-    for (i, row) in (0..32u8).zip(rating.rows()) {
+    for (k, row) in Mark::all().into_iter().zip(rating.rows()) {
         let offset = dice.below(row.period);
         let interval = row.period.saturating_add(dice.below(3));
         let memory = dice.below(row.memory.saturating_add(1));
         let compute = dice.below(row.compute).saturating_add(1);
-        clock.set(Mark::new(i)?, offset, interval, memory, compute)?;
+        clock.set(k, offset, interval, memory, compute)?;
     }
     Ok(clock)
 }
@@ -28,8 +28,8 @@ pub(super) fn fitted<F: Feed + Drop, A, B>(
     rating: &Rating<A, B>,
 ) -> Result<Gate<CutOff<F>>, Fail> {
     let mut cut = CutOff::new(below);
-    for (i, row) in (0..32u8).zip(rating.rows()) {
-        cut.set(Mark::new(i)?, row.memory, row.compute)?;
+    for (k, row) in Mark::all().into_iter().zip(rating.rows()) {
+        cut.set(k, row.memory, row.compute)?;
     }
     spaced(cut, rating)
 }
@@ -37,8 +37,8 @@ pub(super) fn fitted<F: Feed + Drop, A, B>(
 // A feed under a gate at each row's period.
 fn spaced<F: Feed + Drop, A, B>(below: F, rating: &Rating<A, B>) -> Result<Gate<F>, Fail> {
     let mut gate = Gate::new(below);
-    for (i, row) in (0..32u8).zip(rating.rows()) {
-        gate.set(Mark::new(i)?, row.period)?;
+    for (k, row) in Mark::all().into_iter().zip(rating.rows()) {
+        gate.set(k, row.period)?;
     }
     Ok(gate)
 }
@@ -46,8 +46,8 @@ fn spaced<F: Feed + Drop, A, B>(below: F, rating: &Rating<A, B>) -> Result<Gate<
 // A feed under a gate of some distances.
 pub(super) fn shut<F: Feed + Drop>(below: F, mut dice: Dice) -> Result<Gate<F>, Fail> {
     let mut gate = Gate::new(below);
-    for k in 0..32 {
-        gate.set(Mark::new(k)?, dice.below(200).saturating_add(1))?;
+    for k in Mark::all() {
+        gate.set(k, dice.below(200).saturating_add(1))?;
     }
     Ok(gate)
 }
@@ -80,6 +80,7 @@ fn costs(rows: &[Row], k: u8) -> (u32, u32) {
 }
 
 // Adds a record to a list.
+// Stays: one for this crate and feed_tests would be a public function of one more crate, with a contract and an edit.
 fn write(bytes: &mut Vec<u8>, step: u32, m: u32, c: u32, k: u8) -> Result<(), AllocError> {
     for word in [step, m, c] {
         bytes.extend_from_slice(&word.to_be_bytes())?;
