@@ -8,6 +8,7 @@ pub enum StepFault {
     LastNumber,
 }
 
+// Stays: the numbers of refusals are a rule of the project.
 impl StepFault {
     pub fn number(&self) -> u8
         ensures { result ≡ step_number self.now }

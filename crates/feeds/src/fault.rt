@@ -21,6 +21,7 @@ pub enum SettingFault {
     Processor,
 }
 
+// Stays: the numbers of refusals are a rule of the project.
 impl MarkFault {
     pub fn number(&self) -> u8
         ensures { result ≡ mark_number self.now }

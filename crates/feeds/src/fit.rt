@@ -10,6 +10,7 @@ use rows::row::Row;
 
 // Why a pledge does not fit a rating: the first row that fails, and the letter of the pledge's kind, for a pile that of its
 // top layer.
+// Stays: the letter of a kind and the number of the refusal are rules of the project.
 #[derive(Clone, Copy, PartialEq, Eq, Debug)]
 pub struct Misfit {
     pub row: u8,

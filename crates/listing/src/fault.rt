@@ -8,6 +8,7 @@ pub enum ListingFault {
     ShortBuffer,
 }
 
+// Stays: the numbers of refusals are a rule of the project.
 impl ListingFault {
     pub fn number(&self) -> u8
         ensures { result ≡ listing_number self.now }

@@ -10,6 +10,7 @@ mod rules;
 
 // A list feed: arrivals as a file writes them down, read where the file lies. The records count up to the first faulty
 // one. Each mark stands at its next untaken record, or at the end, so that nothing is looked for twice.
+// Stays: that the struct has the file's bytes itself is a form of the project; `records` reads them as what they are.
 #[derive(Drop)]
 pub struct List<'a> {
     bytes: &'a [u8],

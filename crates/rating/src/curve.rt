@@ -19,6 +19,7 @@ pub fn least<C: Curve>(curve: &C, ceiling: u32) -> Option<u32>
 
 // The same where no solution is below `from`, and `from` asks for itself at least: the lengths below are spared.
 // The curve never falls, so the work asked in a length at or below a solution is at or below it too.
+// Stays: a loop that breaks with the solution found or none is a form of the project.
 pub(crate) fn least_from<C: Curve>(curve: &C, from: u32, ceiling: u32) -> Option<u32>
     requires low { (v : ℕ) → (C.rising curve.now).work v ≡ v → from ≤ v }
     requires up { from ≤ (C.rising curve.now).work from }

@@ -39,6 +39,7 @@ impl RankedDraft {
     }
 }
 
+// Stays: the two phases as types of a trait would take two impls of three functions; a match has both beside each other.
 impl Phase {
     // What a job of a row costs.
     fn cost(self, row: &Row) -> u32

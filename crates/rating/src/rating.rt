@@ -14,6 +14,7 @@ mod readings;
 pub use closing::close;
 
 // The bounds of every row.
+// Stays: two tables and no table of pairs, since the search at the processor reads the one of the memory as it is.
 #[derive(Drop)]
 struct Bounds {
     memory: [u32; 32],

@@ -6,6 +6,7 @@ pub enum Phase {
 }
 
 // What closing a draft finds: every row meets its deadline, or one is the first in a phase's order that has no bound.
+// Stays: closing refuses nothing, which is a rule of the project, so what is late is an answer and no error of a Result.
 #[derive(Clone, Copy, PartialEq, Eq, Debug)]
 pub enum Verdict {
     Accepted,

@@ -6,6 +6,7 @@ use crate::table::Table;
 
 // A draft: a table of rows under edit. Its first `count` rows are written, and each of them is valid.
 // It is moved, never copied: a closed draft is gone until its rating is reopened.
+// Stays: a table of 32 rows without an invariant, and a draft that has it, is a form of the project.
 #[derive(Drop)]
 pub struct Draft {
     table: Table,

@@ -76,6 +76,7 @@ pub struct Refusal {
     pub record: Option<usize>,
 }
 
+// Stays: that each refusal has a number in decimal is a rule of the project; the cases say the same by name.
 impl RowFault {
     pub fn number(&self) -> u8
         ensures { result ≡ row_number self.now }

@@ -54,6 +54,7 @@ impl<A, B, P: Feed> Simulation<A, B, P> {
 }
 
 // Which rows have no job.
+// Stays: a table for one step; with the tallies it would outlive the step, and a map would need a heap.
 fn free_places<A, B, P>(run: &Run<A, B, P>) -> [bool; 32]
     ensures { (k : ℕ) → k < length (rows_in run.now) → slice_index_or result k false ≡ is_free (place run.now k) }
 {

@@ -12,7 +12,7 @@ pub enum LineFault {
 }
 
 // A faulty line: its number, counted from 1, and what is wrong with it.
-// Stays: (d) no function serves this and BadWord alike, and a common type would lose what is counted, and from where.
+// Stays: no function serves this and BadWord alike, and a common type would lose what is counted, and from where.
 #[derive(Clone, Copy, PartialEq, Eq, Debug)]
 pub struct BadLine {
     pub line: usize,

@@ -10,6 +10,7 @@ use super::{Run, Slot};
 use rating::verdict::Phase;
 
 // Whether a row waits for the resource of a phase.
+// Stays: that the rules of a step match a place's cases is a form of the project; so a phase is told, and no closure.
 fn waits(phase: Phase, place: Slot) -> bool
     ensures { result ≡ waits_for phase place }
 {

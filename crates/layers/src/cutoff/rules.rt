@@ -44,6 +44,7 @@ impl<F: Feed> CutOff<F> {
     }
 
     // Gives back the feed below.
+    // Stays: one of these for gate and cut-off would be a trait, with a ghost member and two impls, for two lines.
     pub fn into_inner(self) -> F
         ensures { result ≡ self.below }
     {

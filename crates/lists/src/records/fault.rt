@@ -34,6 +34,7 @@ pub enum CheckFault {
     List(ListFault),
 }
 
+// Stays: the numbers of refusals, and fault enums of their own for a book and a list, are rules of the project.
 impl ListRecordFault {
     pub fn number(&self) -> u8
         ensures { result ≡ list_record_number self.now }

@@ -156,6 +156,7 @@ fn arrived(seed: u32, place: Slot, offer: Option<(u32, u32)>, since: u32) -> Res
     }
 }
 
+// Stays: the judge has its own `waits` and `holder`, since what it judges has others.
 fn waits(phase: Phase, place: Slot) -> bool {
     match place {
         Slot::Empty => false,

@@ -62,6 +62,7 @@ fn most(cost: u32, bound: u32, period: u32, steps: usize) -> u64 {
     rounded_up(span, period as u64).saturating_mul(cost as u64)
 }
 
+// Stays: a limit is found apart from what is tested.
 fn rounded_up(a: u64, b: u64) -> u64 {
     if b == 0 {
         return 0;
