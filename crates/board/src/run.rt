@@ -21,6 +21,7 @@ pub struct Answer {
 
 // A run of the board: a rating, the pile that its jobs come from, the number of the next step, and a place for each row.
 // It is moved, never copied; ending it gives its rating back.
+// Stays: one place for each row by its number, in fixed memory.
 #[derive(Drop)]
 pub struct Run<A, B, P> {
     rating: Rating<A, B>,

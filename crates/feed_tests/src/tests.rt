@@ -34,6 +34,7 @@ fn list_of(heap: Global, records: &[(u32, u32, u32, u8)]) -> Result<Vec<u8>, All
 
 // Takes whatever is offered, step by step and marks from 0 upward, and compares it with what is wanted: step, mark, m and c.
 // The case is named if they differ.
+// Stays: a struct of the handle and a case's number would be made anew for each case.
 fn takes<F: Feed>(
     rt: &impl Abort,
     case: u32,

@@ -2,6 +2,7 @@ ghost use Rattle.std.specs.Option.{option_map};
 ghost use Rattle.std.specs.Prelude.{◌≡◌};
 
 // What changes as the steps pass.
+// Stays: three values lower a rest; one struct of a rest and the rest of them would give terms, distance and cursor one name.
 pub trait Timed {
     ghost later: { Self → Self };
 

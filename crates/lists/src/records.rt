@@ -10,6 +10,7 @@ use record::{Arrival, Record};
 use rows::fault::BadRecord;
 
 // The first so many records of a file, where they lie: 16 bytes each.
+// Stays: all that is said of a list is said of the file's bytes, which a slice of records would no longer show.
 #[derive(Clone, Copy)]
 pub(crate) struct Records<'a> {
     bytes: &'a [u8],
@@ -45,6 +46,7 @@ impl<'a> Records<'a> {
     }
 
     // The record of a number.
+    // Stays: a number that is known to be one of a file's records would have to carry the file, as a type.
     fn at(&self, number: usize) -> Record<'a>
         requires { number < self.now.count }
         ensures { result.bytes.now ≡ record_at self.now.bytes.now number }

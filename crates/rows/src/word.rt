@@ -2,6 +2,7 @@ ghost use Rattle.rows.specs.Books.{word_at};
 ghost use Rattle.std.specs.Prelude.{◌≡◌, slice_index};
 
 // The byte at a place, or 0 behind the end.
+// Stays: bytes and a place are what is read by; a struct of both would be made for one call.
 fn byte_at(bytes: &[u8], at: usize) -> u8
     ensures { result ≡ slice_index bytes.now at }
 {

@@ -9,6 +9,7 @@ use crate::timeline::Timeline;
 use board::run::{Answer, Run};
 
 // What the steps of a run have shown: of each row, and along the first steps.
+// Stays: one tally for each row by its number, in fixed memory.
 #[derive(Drop)]
 pub(crate) struct Journal {
     pub(crate) tallies: [Tally; 32],
@@ -26,6 +27,7 @@ impl Journal {
         }
     }
 
+    // Stays: a struct of what is told of a step would be made for this call and taken apart in it.
     // Takes in a step that brought a run to where it is; `free` tells which places were empty before it.
     pub(crate) fn note<A, B, P>(&mut self, free: &[bool; 32], answer: &Answer, run: &Run<A, B, P>)
         requires { (((k : ℕ) → AtMost 2000000000 (tally_at self.old.tallies k))) × (answer.now.step ≤ 2000000000) }

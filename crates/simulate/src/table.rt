@@ -140,6 +140,7 @@ fn holder(phase: Phase, answer: &Answer) -> Option<u8>
 }
 
 // The name before the time line of a resource.
+// Stays: two words with their spaces; a listing has other spaces, so a `Display` of a phase would serve neither.
 fn name(phase: Phase) -> &'static str
     ensures { result.now ≡ name_of phase }
 {

@@ -62,6 +62,7 @@ impl Seen {
     }
 
     // The load time of the row's job, if the memory served it for the last time, else 0.
+    // Stays: a worst time begins at 0, so none and 0 are the same to it.
     fn load(&self) -> u32
         ensures { result ≡ load_of self.now.row self.now.answer self.now.after }
     {

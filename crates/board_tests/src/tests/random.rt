@@ -108,6 +108,7 @@ impl<R: Abort> Trial<'_, R> {
     ) -> Result<Option<u32>, Fail> {
         let rating = close(draft, memory.0, processor.0);
         if rating.verdict() != Verdict::Accepted {
+            assert_eq!(self.rt; bounds_of(&rating), 0, "seed {}", self.seed);
             return Ok(None);
         }
         let judge = Judge {

@@ -31,6 +31,7 @@ impl Clockwork {
     }
 
     // Starts the arrivals of one mark: after the offset, and then at each interval.
+    // Stays: told figure by figure, since each may be refused with a number of its own, a rule of the project.
     pub fn set(
         &mut self,
         k: Mark,

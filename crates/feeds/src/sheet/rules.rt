@@ -23,6 +23,7 @@ impl DataSheet {
     }
 
     // Pledges for one mark that arrivals keep this distance and cost no more than this.
+    // Stays: told figure by figure, since each may be refused with a number of its own, a rule of the project.
     pub fn set(
         &mut self,
         k: Mark,

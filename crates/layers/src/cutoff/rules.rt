@@ -34,6 +34,7 @@ impl<F: Feed> CutOff<F> {
     }
 
     // Sets the ceilings of a mark.
+    // Stays: told figure by figure, since each may be refused with a number of its own, a rule of the project.
     pub fn set(&mut self, k: Mark, memory: u32, processor: u32) -> Result<(), SettingFault>
         ensures answered { result ≡ ceilings_checked memory processor }
         ensures done { CutOffSet self.old k.value memory processor result self.new }

@@ -84,6 +84,7 @@ impl Draft {
     }
 
     // The same rows again, to try a load on.
+    // Stays: a draft is moved and never cloned, which is a form of the project.
     pub(crate) fn copied(&self) -> Draft
         ensures { rows_of result ≡ rows_of self.now }
     {

@@ -10,10 +10,10 @@ impl Label {
     pub fn is_printable(&self) -> bool
         ensures { result ≡ is_labelled self.now }
     {
-        printable(self.first)
-            && printable(self.second)
-            && printable(self.third)
-            && printable(self.fourth)
+        self.first.is_ascii_graphic()
+            && self.second.is_ascii_graphic()
+            && self.third.is_ascii_graphic()
+            && self.fourth.is_ascii_graphic()
     }
 }
 
@@ -59,7 +59,7 @@ impl Row {
         ensures value { result ≡ checked self.now }
         ensures valid { OnOk result (Valid self.now) }
     {
-        if self.period < 1 || self.period > 1_000_000 {
+        if !(1..=1_000_000).contains(&self.period) {
             return Err(RowFault::PeriodRange);
         }
         if self.deadline > self.period {
@@ -77,10 +77,4 @@ impl Row {
         }
         Ok(())
     }
-}
-
-fn printable(byte: u8) -> bool
-    ensures { result ≡ is_printable byte }
-{
-    0x21 <= byte && byte <= 0x7E
 }
