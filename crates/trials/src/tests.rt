@@ -101,12 +101,8 @@ const LOOSE: &str = "# LABEL M C D T\n\tTAGS 9 1 20 20  1 1\r\n\nCENT 1 9 24 24 
 #[test]
 fn both_ways(rt: HostRuntime) -> Result<(), Fail> {
     let heap = rt.alloc();
-    let Ok(book) = make_book(heap, LOOSE.as_bytes()) else {
-        return Err(Fail::new("no book"));
-    };
-    let Ok(table) = show_book(heap, &book) else {
-        return Err(Fail::new("no table"));
-    };
+    let book = make_book(heap, LOOSE.as_bytes())?;
+    let table = show_book(heap, &book)?;
     let wanted = "\
 # LABEL       M       C       D       T MEMORY-RANK PROCESSOR-RANK
 TAGS          9       1      20      20           1              1
