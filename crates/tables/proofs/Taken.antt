@@ -2,14 +2,12 @@ use Rattle.std.proofs.Common.{◌≡◌, ℕ, ◌+◌, ◌<◌, ◌≤◌, Bool,
 use Rattle.std.proofs.lemmas.List.{append-nil, drop_all, drop_more, get_or_default}
 use Rattle.std.proofs.lemmas.List.FromFn.{get_or-enumerate_from, length-enumerate_from}
 use Rattle.std.specs.List.{enumerate_from}
-use Rattle.std.specs.Result.{IsErrAnd}
 use Rattle.lines.specs.Faults.{and_then}
 use Rattle.lines.specs.Lines.{line_of}
 use Rattle.lines.specs.Words.{word_in}
-use Rattle.rows.specs.declared.draft.Draft.{Draft}
 use Rattle.rows.specs.declared.row.Row.{Row}
 use Rattle.tables.proofs.Texts.{lines, pieces, tail}
-use Rattle.tables.specs.Tables.{after_line, drafted, in_line, table_from, table_of}
+use Rattle.tables.specs.Tables.{after_line, in_line, table_from, table_of}
 use Rattle.tables.specs.Texts.{lines_in}
 use Rattle.tables.specs.declared.fault.BadLine.{BadLine}
 
@@ -59,7 +57,3 @@ table_stops k n rows bad xs line h read = ap (λ o. and_then o (λ rs. table_fro
 pub table_ends : (n k : ℕ) (rows : List Row) (xs : List (List ℕ)) → length xs ≤ k → Ok rows ≡ table_from n rows (drop k xs)
 unfolding table_from
 table_ends n k rows xs h = sym (ap (table_from n rows) (drop_all k xs h))
-
-pub refused : {e : BadLine} (r : Result Draft BadLine) → IsErrAnd r (λ y. y ≡ e) → drafted r ≡ Err e
-refused (Ok x) h = elim h [ ]
-refused (Err y) h = ap Err h

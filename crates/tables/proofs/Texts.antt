@@ -1,7 +1,5 @@
-use Rattle.std.proofs.Common.{◌≡◌, ℕ, zero, suc, ◌+◌, Bool, true, false, eqb, List, [], ◌∷◌, ◌++◌, get_or, Option, Some, None, Bor, sym, refl, ap, ◌∙◌, one-add, arith}
-use Rattle.std.proofs.lemmas.Option.{unwrap_or-slice_get}
-use Rattle.std.specs.List.{onto_first, prefix_len, slice_get, slice_split}
-use Rattle.std.specs.Option.{UnwrapsOrElse, option_map, unwrap_or}
+use Rattle.std.proofs.Common.{◌≡◌, ℕ, zero, suc, ◌+◌, Bool, true, false, eqb, List, [], ◌∷◌, ◌++◌, get_or, sym, refl, ap, ◌∙◌, one-add, arith}
+use Rattle.std.specs.List.{onto_first, prefix_len, slice_split}
 use Rattle.tables.specs.Texts.{behind_line, first_line, is_inside, line_in, lines_in, onto}
 
 -- the pieces of a text between its lines' ends, the last of which may be empty
@@ -53,12 +51,6 @@ pub line-piece : (text : List ℕ) (n : ℕ) → get_or (pieces text) n [] ≡ l
 unfolding line_in
 line-piece text zero = (firsts text).first
 line-piece text (suc n) = (firsts text).others n ∙ line-piece (behind_line text) n
-
--- what is taken of a place of a list, or the empty one
-pub taken : (r : Option (Bor (List ℕ))) (x : Bor (List ℕ)) (ps : List (List ℕ)) (n : ℕ) → UnwrapsOrElse r (λ y. y.now ≡ []) x → option_map (λ y. y.now) r ≡ slice_get ps n
-    → x.now ≡ get_or ps n []
-taken None x ps n is at = is ∙ ap (λ o. unwrap_or o []) at ∙ unwrap_or-slice_get ps n []
-taken (Some y) x ps n is at = ap (λ z. z.now) is ∙ ap (λ o. unwrap_or o []) at ∙ unwrap_or-slice_get ps n []
 
 -- the pieces are the lines, and one empty piece behind the last line's end
 abbrev pub tail : Bool → List (List ℕ)

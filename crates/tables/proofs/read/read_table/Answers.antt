@@ -4,8 +4,9 @@ use Rattle.std.proofs.lemmas.Iterator.Splits.{YieldsList-from_slice_split}
 use Rattle.std.proofs.lemmas.List.{length_push}
 use Rattle.std.proofs.lemmas.List.FromFn.{length-enumerate_from}
 use Rattle.rows.specs.Drafts.{rows_of}
-use Rattle.tables.specs.Tables.{table_from}
-use Rattle.tables.proofs.Taken.{at_turn, refused, table_ends, table_next, table_pieces, table_stops}
+use Rattle.lines.proofs.Rows.{refused}
+use Rattle.tables.specs.Tables.{drafted, table_from}
+use Rattle.tables.proofs.Taken.{at_turn, table_ends, table_next, table_pieces, table_stops}
 use Rattle.tables.proofs.Texts.{is_end, pieces}
 use Rattle.tables.proofs.read.read_table.Goals as goal
 
@@ -39,7 +40,7 @@ returns-in_err-take_line c =
     (YieldsList-from_slice_split _ is_end c.args.text.now c.split.ensures.rest c.split.ensures.done c.split.ensures.closure (λ x r q k. search (rules, tests))))
     c.enumerate-passed-items.ensures.count))
     c.loop-passed.yielded _ c.loop-passed.yielded_by _ _ (c.in-Some.passed, c.in-Some.line) c.in-Some.is c.next.ensures.steps)
-    in refused c.from_residual.result c.from_residual.ensures.1
+    in ap drafted (refused c.from_residual.result c.from_residual.ensures.1)
     ∙ table_stops (length c.loop-passed.yielded) c.in-Some.passed (rows_of c.loop-passed.draft) c.in_err-take_line.field-0.0 (pieces c.args.text.now) c.in-Some.line.now turn
     c.in_err-take_line.ensures
     ∙ c.loop-passed.invariant

@@ -1,7 +1,8 @@
 use Rattle.std.proofs.Common.{rules, tests, ◌∙◌}
 use Rattle.std.proofs.lemmas.Iterator.Consumers.{nth_from_yields_List}
 use Rattle.std.proofs.lemmas.Iterator.Splits.{YieldsList-from_slice_split}
-use Rattle.tables.proofs.Texts.{is_end, line-piece, pieces, taken}
+use Rattle.lines.proofs.Words.{taken}
+use Rattle.tables.proofs.Texts.{is_end, line-piece, pieces}
 use Rattle.tables.proofs.split.line.Goals as goal
 
 pub returns : goal.returns
