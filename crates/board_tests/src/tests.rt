@@ -46,6 +46,7 @@ fn book_a_ranked(tags: u8, cent: u8, dark: u8) -> Result<Draft, EditFault> {
 }
 
 // The first response of each row within some steps, 0 for a row that finishes no job.
+// Stays: a test keeps its values, among them 0 where there is nothing.
 fn first_responses<A, B, P: Feed>(
     run: &mut Run<A, B, P>,
     steps: u32,

@@ -40,6 +40,7 @@ fn too_costly() -> Row {
 }
 
 // The number of a row's or a draft's fault, 0 for none.
+// Stays: a test keeps its values, among them 0 where there is nothing.
 fn fault_of<T: Drop, F: Drop>(res: Result<T, F>) -> u8
 where
     EditFault: From<F>,

@@ -1,3 +1,4 @@
 pub mod Decimals
 pub mod Lengths
 pub mod Lines
+pub mod Written

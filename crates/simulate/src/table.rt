@@ -39,7 +39,7 @@ impl<A, B> Report<'_, A, B> {
     }
 
     // How wide a column is: as its longest word.
-    // Stays: the numbers of the rows are what is wanted here, and not the rows.
+    // Stays: a fold over the rows' numbers takes the loop's invariant as a lemma, and is no plainer.
     fn width(&self, column: Column) -> usize
         ensures { result ≡ width_in self.now.rating.now self.now.journal.now column }
     {

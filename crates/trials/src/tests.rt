@@ -11,6 +11,7 @@ fn fault_of(text: &str) -> Option<BadLine> {
 }
 
 // What is told of a faulty row: its line and the number.
+// Stays: a test keeps its values, among them 0 where there is nothing.
 fn refused(text: &str) -> (usize, u8) {
     match read_table(text.as_bytes()) {
         Err(

@@ -36,6 +36,7 @@ fn draft(n: u8) -> Result<Draft, Fail> {
 }
 
 // What the fit check tells of a pledge and the first n rows: fault, row and letter, or zeros.
+// Stays: a test keeps its values, among them 0 where there is nothing.
 fn told<P: Pledge>(n: u8, pledge: &P) -> Result<(u8, u8, u8), Fail> {
     let rating = close(draft(n)?, ByDeadline, ByDeadline);
     match fit(&rating, pledge) {

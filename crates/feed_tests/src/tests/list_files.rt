@@ -10,6 +10,7 @@ use std::alloc::{AllocError, Global};
 use std::test::Fail;
 
 // What the list check tells: the fault's number, 0 for none, and the record at fault or the count of records.
+// Stays: a test keeps its values, among them 0 where there is nothing.
 fn told(answer: Result<usize, CheckFault>) -> (u8, Option<usize>) {
     match answer.map_err(Refusal::from) {
         Ok(count) => (0, Some(count)),

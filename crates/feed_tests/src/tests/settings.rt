@@ -11,6 +11,7 @@ use std::process::Abort;
 use std::test::Fail;
 
 // The number of a setting's fault, 0 for none.
+// Stays: a test keeps its values, among them 0 where there is nothing.
 fn told(res: Result<(), SettingFault>) -> u8 {
     res.err().map_or(0, |fault| fault.number())
 }

@@ -45,10 +45,10 @@ impl<R: Abort> Judge<'_, R> {
         let (rt, seed) = (self.rt, self.seed);
         let step = run.number();
         let places = self.entered(run, twin)?;
-        let processor = self.chosen(Phase::Processor, &places);
+        let processor = chosen(Phase::Processor, &places, &self.limits);
         let wanted = Answer {
             step,
-            memory: self.chosen(Phase::Memory, &places),
+            memory: chosen(Phase::Memory, &places, &self.limits),
             processor,
             finished: ending(processor, &places, step),
         };
@@ -73,17 +73,6 @@ impl<R: Abort> Judge<'_, R> {
             }
         }
         Ok(places)
-    }
-
-    // The row that waits for a resource with the least figure, of several the smallest number.
-    fn chosen(&self, phase: Phase, places: &[Slot; 32]) -> Option<u8> {
-        let (k, _) = (0..32u8)
-            .zip(places)
-            .zip(&self.limits)
-            .filter(|((_, place), _)| waits(phase, **place))
-            .map(|((k, _), limit)| (k, limit.figure(phase)))
-            .min_by_key(|(_, figure)| *figure)?;
-        Some(k)
     }
 
     // No response is above the sum of the row's bounds.
@@ -156,7 +145,18 @@ fn arrived(seed: u32, place: Slot, offer: Option<(u32, u32)>, since: u32) -> Res
     }
 }
 
-// Stays: the judge has its own `waits` and `holder`, since what it judges has others.
+// The row that waits for a resource with the least figure, of several the smallest number.
+fn chosen(phase: Phase, places: &[Slot; 32], limits: &[Limit; 32]) -> Option<u8> {
+    let (k, _) = (0..32u8)
+        .zip(places)
+        .zip(limits)
+        .filter(|((_, place), _)| waits(phase, **place))
+        .map(|((k, _), limit)| (k, limit.figure(phase)))
+        .min_by_key(|(_, figure)| *figure)?;
+    Some(k)
+}
+
+// Stays: the judge shares nothing with what it judges, not even `waits` and `holder`.
 fn waits(phase: Phase, place: Slot) -> bool {
     match place {
         Slot::Empty => false,

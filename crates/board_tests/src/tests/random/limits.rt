@@ -4,6 +4,7 @@ use rows::row::Row;
 use std::test::*;
 
 // The figure of a row that an order goes by.
+// Stays: limits are found apart from what is tested, so without its `Figure`.
 #[derive(Clone, Copy)]
 pub(super) enum Figure {
     MemoryRank,
