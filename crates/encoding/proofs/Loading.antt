@@ -4,6 +4,7 @@ use Rattle.std.proofs.lemmas.Bool.{lt-ltb}
 use Rattle.std.proofs.lemmas.Bool.Decides.{nat_tests}
 use Rattle.encoding.specs.Records.{LoadsAs, bytes_of, record_of}
 use Rattle.encoding.proofs.Words.{row_back}
+use Rattle.rows.proofs.Chunks.{read_drop, row_drop}
 use Rattle.rows.proofs.Scans.{loads}
 use Rattle.rows.specs.Books.{Loads, first_rows, load_of, meets, read_at, row_at, sound}
 use Rattle.rows.specs.Drafts.{EachValid}
@@ -12,13 +13,6 @@ use Rattle.rows.specs.declared.fault.BookFault.TheVariants.{Length, Record}
 use Rattle.rows.specs.declared.fault.LoadFault.{LoadFault}
 use Rattle.rows.specs.declared.fault.LoadFault.TheVariants.{Book}
 use Rattle.rows.specs.declared.row.Row.{Row}
-
--- what is read k places on is read in the rest from place k on
-pub read_drop : (bs : List ℕ) (k at : ℕ) → read_at bs (k + at) ≡ read_at (drop k bs) at
-read_drop bs k at = simp (get_or-drop, add_assoc)
-
-pub row_drop : (bs : List ℕ) (k at : ℕ) → row_at bs (k + at) ≡ row_at (drop k bs) at
-row_drop bs k at = simp (get_or-drop, add_assoc)
 
 pub length-bytes : (rows : List Row) → length (bytes_of rows) ≡ 24 * length rows
 unfolding bytes_of

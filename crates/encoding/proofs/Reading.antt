@@ -2,7 +2,7 @@ use Rattle.std.proofs.Common.{◌≡◌, ℕ, zero, suc, ◌+◌, ◌*◌, ◌/�
 use Rattle.std.proofs.lemmas.List.{drop_more, get_or-drop, flat_map_more, length-drop, take_all}
 use Rattle.std.proofs.lemmas.Bool.{and_parts, eqb-true}
 use Rattle.encoding.specs.Records.{EachByte, SameBook, bytes_of, record_of, word_bytes}
-use Rattle.encoding.proofs.Loading.{row_drop}
+use Rattle.rows.proofs.Chunks.{row_drop}
 use Rattle.encoding.proofs.Words.{word_forth}
 use Rattle.rows.proofs.Scans.{loads}
 use Rattle.rows.specs.Books.{Loads, first_rows, meets, row_at, sound, taken, word_at}

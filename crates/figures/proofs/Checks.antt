@@ -7,7 +7,7 @@ use Rattle.rows.specs.declared.row.Row.{Row}
 use Rattle.rating.specs.Bounds.{ceiling_of, figure_at, memory_work, never, processor_work, row_of, work_of}
 use Rattle.rating.specs.Closing.{FirstLate}
 use Rattle.rating.specs.Curves.{LeastSolution, first_solution, least_within}
-use Rattle.rating.specs.Orders.{Before, comes}
+use Rattle.rating.specs.Orders.{Before, by_memory_rank, by_processor_rank, comes}
 use Rattle.rating.specs.Rankings.{keep, rows_before, sum_over, up_to}
 use Rattle.rating.specs.declared.verdict.Phase.{Phase}
 use Rattle.rating.specs.declared.verdict.Phase.TheVariants.{Memory, Processor}
@@ -15,7 +15,7 @@ use Rattle.rating.specs.declared.verdict.Verdict.{Verdict}
 use Rattle.rating.specs.declared.verdict.Verdict.TheVariants.{Accepted, Late}
 use Rattle.rating.proofs.Firsts.{some-value}
 use Rattle.rating.proofs.Curves.{found_least, least_within-none, least_within-some}
-use Rattle.figures.specs.Table.{Figure, FiguresStand, Right, Says, by_memory, by_processor, figures, no_figure}
+use Rattle.figures.specs.Table.{Figure, FiguresStand, Right, Says, figures, no_figure}
 
 -- The rule of a figure as a test that is computed, and what the test tells.
 
@@ -81,30 +81,30 @@ first_late_is phase rows late b k e =
 
 abbrev says : List Row → (ℕ → ℕ) → (ℕ → ℕ) → Verdict → Bool
 says rows late bound Accepted = all (λ k. leb (late k + bound k) (row_of rows k).deadline) (length rows)
-says rows late bound (Late Memory k) = first_late Memory rows never by_memory k
+says rows late bound (Late Memory k) = first_late Memory rows never by_memory_rank k
 says rows late bound (Late Processor k) =
-    all (λ j. is_value (bounded Memory rows never by_memory j) (late j)) (length rows) && first_late Processor rows late by_processor k
+    all (λ j. is_value (bounded Memory rows never by_memory_rank j) (late j)) (length rows) && first_late Processor rows late by_processor_rank k
 
 told : (rows : List Row) (late bound : ℕ → ℕ) (v : Verdict) → says rows late bound v ≡ true → Says rows late bound v
 told rows late bound Accepted e = λ k h. leb-true _ _ (at (λ i. leb (late i + bound i) (row_of rows i).deadline) (length rows) e k h)
-told rows late bound (Late Memory k) e = first_late_is Memory rows never by_memory k e
+told rows late bound (Late Memory k) e = first_late_is Memory rows never by_memory_rank k e
 told rows late bound (Late Processor k) e =
-    let parts = and_parts (all (λ j. is_value (bounded Memory rows never by_memory j) (late j)) (length rows)) _ e
+    let parts = and_parts (all (λ j. is_value (bounded Memory rows never by_memory_rank j) (late j)) (length rows)) _ e
     in (
       late,
       (
         (λ j h.
-            least_within-some (memory_work rows (rows_before by_memory rows j) j) _ _
-            (value (bounded Memory rows never by_memory j) (late j) (at (λ i. is_value (bounded Memory rows never by_memory i) (late i)) (length rows) parts.0 j h))),
-        first_late_is Processor rows late by_processor k parts.1,
+            least_within-some (memory_work rows (rows_before by_memory_rank rows j) j) _ _
+            (value (bounded Memory rows never by_memory_rank j) (late j) (at (λ i. is_value (bounded Memory rows never by_memory_rank i) (late i)) (length rows) parts.0 j h))),
+        first_late_is Processor rows late by_processor_rank k parts.1,
       ),
     )
 
 abbrev memory_right : Figure → ℕ → Bool
-memory_right f k = solved (memory_work f.rows (rows_before by_memory f.rows k) k) (figure_at f.memory k)
+memory_right f k = solved (memory_work f.rows (rows_before by_memory_rank f.rows k) k) (figure_at f.memory k)
 
 abbrev processor_right : Figure → ℕ → Bool
-processor_right f k = solved (processor_work f.rows (figure_at f.memory) (rows_before by_processor f.rows k) k) (figure_at f.processor k)
+processor_right f k = solved (processor_work f.rows (figure_at f.memory) (rows_before by_processor_rank f.rows k) k) (figure_at f.processor k)
 
 abbrev is_right : Figure → Bool
 is_right f =
@@ -116,9 +116,9 @@ right f e =
     let parts = and_parts (all (memory_right f) (length f.rows)) _ e
     in let more = and_parts (all (processor_right f) (length f.rows)) _ parts.1
     in record {
-      memory = λ k h. solution (memory_work f.rows (rows_before by_memory f.rows k) k) (figure_at f.memory k) (at (memory_right f) (length f.rows) parts.0 k h);
+      memory = λ k h. solution (memory_work f.rows (rows_before by_memory_rank f.rows k) k) (figure_at f.memory k) (at (memory_right f) (length f.rows) parts.0 k h);
       processor = λ k h.
-          solution (processor_work f.rows (figure_at f.memory) (rows_before by_processor f.rows k) k) (figure_at f.processor k)
+          solution (processor_work f.rows (figure_at f.memory) (rows_before by_processor_rank f.rows k) k) (figure_at f.processor k)
           (at (processor_right f) (length f.rows) more.0 k h);
       verdict = told f.rows (figure_at f.memory) (figure_at f.processor) f.verdict more.1;
     }

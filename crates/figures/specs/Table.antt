@@ -7,7 +7,7 @@ use Rattle.rows.specs.declared.fault.RowFault.{RowFault}
 use Rattle.rating.specs.Bounds.{figure_at, memory_work, processor_work, row_of}
 use Rattle.rating.specs.Closing.{LateBy}
 use Rattle.rating.specs.Curves.{LeastSolution}
-use Rattle.rating.specs.Orders.{Before, by_figure}
+use Rattle.rating.specs.Orders.{by_memory_rank, by_processor_rank}
 use Rattle.rating.specs.Rankings.{rows_before}
 use Rattle.rating.specs.declared.verdict.Phase.TheVariants.{Processor}
 use Rattle.rating.specs.declared.verdict.Verdict.{Verdict}
@@ -45,21 +45,15 @@ pub record Figure : Type 0 where
   pub memory : List ℕ
   pub processor : List ℕ
 
-abbrev pub by_memory : Before
-by_memory = (by_figure (λ r. r.memory_rank)).before
-
-abbrev pub by_processor : Before
-by_processor = (by_figure (λ r. r.processor_rank)).before
-
 -- accepted figures are within their deadlines; late ones have the first row of the phase without a solution in its ceiling
 abbrev pub Says : List Row → (ℕ → ℕ) → (ℕ → ℕ) → Verdict → Type 0
 Says rows late bound Accepted = (k : ℕ) → k < length rows → late k + bound k ≤ (row_of rows k).deadline
-Says rows late bound (Late phase k) = LateBy rows by_memory by_processor (Late phase k)
+Says rows late bound (Late phase k) = LateBy rows by_memory_rank by_processor_rank (Late phase k)
 
 pub record Right (f : Figure) : Type 0 where
-  pub memory : (k : ℕ) → k < length f.rows → LeastSolution (memory_work f.rows (rows_before by_memory f.rows k) k) (figure_at f.memory k)
+  pub memory : (k : ℕ) → k < length f.rows → LeastSolution (memory_work f.rows (rows_before by_memory_rank f.rows k) k) (figure_at f.memory k)
   pub processor : (k : ℕ) → k < length f.rows
-      → LeastSolution (processor_work f.rows (figure_at f.memory) (rows_before by_processor f.rows k) k) (figure_at f.processor k)
+      → LeastSolution (processor_work f.rows (figure_at f.memory) (rows_before by_processor_rank f.rows k) k) (figure_at f.processor k)
   pub verdict : Says f.rows (figure_at f.memory) (figure_at f.processor) f.verdict
 
 -- Book A in two orders; no rows; one row; a full row; and a row without loading before another.

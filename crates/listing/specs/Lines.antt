@@ -4,13 +4,9 @@ use Rattle.rows.specs.Rows.{label_bytes}
 use Rattle.rows.specs.declared.row.Label.{Label}
 use Rattle.rows.specs.declared.row.Row.{Row}
 
--- a label as its four bytes
-abbrev pub label_text : Label → List ℕ
-label_text l = label_bytes l
-
 -- the head of a line: the number, a space (32) and the label
 abbrev pub head_of : ℕ → Label → List ℕ
-head_of number label = two_digits number ++ (32 ∷ label_text label)
+head_of number label = two_digits number ++ (32 ∷ label_bytes label)
 
 -- a figure of a line: a space (32) before the number in decimal
 abbrev pub figure : ℕ → List ℕ

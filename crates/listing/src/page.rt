@@ -1,9 +1,9 @@
 ghost use Rattle.std.specs.Prelude.{◌≡◌, ◌+◌, ◌<◌, ◌≤◌, [], ◌++◌, length, IfSome};
-ghost use Rattle.listing.specs.Lines.{figure, label_text, line_of};
+ghost use Rattle.listing.specs.Lines.{figure, line_of};
 ghost use Rattle.listing.specs.Listings.{bound_line, count_text};
 ghost use Rattle.listing.specs.Text.{two_digits};
 ghost use Rattle.rows.specs.Refusals.{record_text};
-ghost use Rattle.rows.specs.Rows.{Valid};
+ghost use Rattle.rows.specs.Rows.{Valid, label_bytes};
 
 use arrayvec::ArrayVec;
 use itoa::{Buffer, Integer};
@@ -56,7 +56,7 @@ impl Page {
     // Puts a label's four bytes.
     fn put_label(&mut self, label: Label)
         requires { length self.old.bytes.items + 4 ≤ 1292 }
-        ensures { self.new.bytes.items ≡ self.old.bytes.items ++ label_text label }
+        ensures { self.new.bytes.items ≡ self.old.bytes.items ++ label_bytes label }
     {
         self.put(&<[u8; 4]>::from(label));
     }

@@ -6,7 +6,8 @@ use Rattle.rows.specs.Drafts.{rows_of}
 use Rattle.feeds.specs.Clocks.{Has, clock_view, entry_of}
 use Rattle.feeds.specs.Fits.{Fitting}
 use Rattle.board.specs.Example.{book_a}
-use Rattle.board.proofs.BookA.{accepts, by_memory, by_processor}
+use Rattle.rating.specs.Orders.{by_memory_rank, by_processor_rank}
+use Rattle.board.proofs.BookA.{accepts}
 use Rattle.board.proofs.example.book_a_run.Goals as goal
 
 -- what closing and the clockwork promise holds of the run that is begun with them
@@ -25,7 +26,7 @@ returns c =
           c.at_full_cost-clock.ensures.rows);
       accepted =
           subst (λ x. is_accepted (verdict_in x) ≡ true) back
-          (c.close-rating.ensures.exact.1 (subst (λ rows. Accepts rows by_memory by_processor) (sym c.in_ok-book_a_draft.ensures) accepts));
+          (c.close-rating.ensures.exact.1 (subst (λ rows. Accepts rows by_memory_rank by_processor_rank) (sym c.in_ok-book_a_draft.ensures) accepts));
       fits =
           subst (λ x. Fitting (clock_view c.begin-run.result.pile) (rows_of (draft_in x))) back
           (subst (λ y. Fitting (clock_view y) (rows_of (draft_in c.close-rating.result))) (sym begun.1.1) c.at_full_cost-clock.ensures.fits);
