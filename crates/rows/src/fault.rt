@@ -204,7 +204,7 @@ impl From<LoadFault> for Refusal {
             BookFault::Record(bad) => Some(bad.number),
         };
         Refusal {
-            number: fault.number(),
+            number: value.number(),
             record,
         }
     }

@@ -96,7 +96,7 @@ impl From<CheckFault> for Refusal {
             ListFault::Record(bad) => Some(bad.number),
         };
         Refusal {
-            number: fault.number(),
+            number: value.number(),
             record,
         }
     }
