@@ -1,16 +1,10 @@
-use Rattle.std.proofs.Common.{◌≡◌, ℕ, zero, suc, Bool, true, false, not, Bor, eqb, List, [], ◌∷◌, length, get_or, take, drop, Option, Some, None, sym, refl, ap, ◌∙◌, one-add, arith}
-use Rattle.std.specs.List.{filter, onto_first, prefix_len, slice_get, slice_split}
+use Rattle.std.proofs.Common.{◌≡◌, ℕ, zero, suc, ◌+◌, ◌-◌, ◌<◌, ◌≤◌, Bool, true, false, not, Bor, List, [], ◌∷◌, length, get_or, take, drop, Option, Some, None, sym, refl, ap, ◌∙◌, one-add, arith}
+use Rattle.std.specs.List.{AllWithin, HoldsAt, filter, onto_first, prefix_len, slice_get, slice_split}
 use Rattle.std.proofs.lemmas.Bool.{ne_eqb}
+use Rattle.std.proofs.lemmas.List.Sums.{prefix_len_is}
 use Rattle.std.proofs.lemmas.Option.{unwrap_or-slice_get}
-use Rattle.std.specs.Option.{UnwrapsOrElse, option_map, unwrap_or}
-use Rattle.lines.specs.Words.{after_word, first_word, from_word, is_blank, is_solid, word_in}
-
--- a piece between blanks that is a word
-abbrev pub is_word : List ℕ → Bool
-is_word piece = not (eqb (length piece) 0)
-
-abbrev pub words : List ℕ → List (List ℕ)
-words line = filter is_word (slice_split is_blank line)
+use Rattle.std.specs.Option.{MatchOption, UnwrapsOrElse, option_map, unwrap_or}
+use Rattle.lines.specs.Words.{after_word, first_word, from_word, is_blank, is_solid, is_word, word_in, words}
 
 -- the first piece of a line, and the words behind it
 record Cut (line : List ℕ) : Type 0 where
@@ -70,3 +64,19 @@ pub taken : (r : Option (Bor (List ℕ))) (x : Bor (List ℕ)) (ws : List (List 
     → x.now ≡ get_or ws n []
 taken None x ws n is at = is ∙ ap (λ o. unwrap_or o []) at ∙ unwrap_or-slice_get ws n []
 taken (Some y) x ws n is at = ap (λ z. z.now) is ∙ ap (λ o. unwrap_or o []) at ∙ unwrap_or-slice_get ws n []
+
+-- one word on
+pub word_on : (line : List ℕ) (n i : ℕ) → i < n → word_in line (n - i) ≡ word_in (after_word line) (n - (i + 1))
+unfolding word_in
+word_on line n i h = let e : n - i ≡ suc (n - (i + 1)) = omega arith in ap (word_in line) e
+
+pub word_here : (line : List ℕ) (n i : ℕ) → n ≤ i → word_in line (n - i) ≡ first_word line
+unfolding word_in
+word_here line n i h = let e : n - i ≡ 0 = omega arith in ap (word_in line) e
+
+-- how far a search goes, which stops at the first that does not pass, or behind them all
+pub prefix_found : (p : ℕ → Bool) (bs : List ℕ) (o : Option ℕ)
+    → MatchOption o (AllWithin (λ b. p b ≡ true) bs 0 (length bs)) (λ n. (n < length bs) × HoldsAt (λ b. p b ≡ false) bs n × AllWithin (λ b. p b ≡ true) bs 0 n)
+    → unwrap_or o (length bs) ≡ prefix_len p bs
+prefix_found p bs None all = sym (prefix_len_is p bs (length bs) 0 (omega arith) (λ k l. all k 0 (omega arith) l) (λ l. absurd (omega arith)))
+prefix_found p bs (Some n) found = sym (prefix_len_is p bs n 0 (omega (arith, found.0)) (λ k l. found.2 k 0 (omega arith) l) (λ l. found.1 0))

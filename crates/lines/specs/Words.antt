@@ -1,5 +1,5 @@
-use Rattle.std.specs.Prelude.{ℕ, zero, suc, Bool, not, ◌||◌, List, take, drop, ◌==◌}
-use Rattle.std.specs.List.{prefix_len}
+use Rattle.std.specs.Prelude.{ℕ, zero, suc, Bool, not, ◌||◌, List, length, take, drop, eqb, ◌==◌}
+use Rattle.std.specs.List.{filter, prefix_len, slice_split}
 
 -- a space, a tab or a carriage return
 abbrev pub is_blank : ℕ → Bool
@@ -24,3 +24,10 @@ after_word line = drop (prefix_len is_solid (from_word line)) (from_word line)
 unfoldable pub word_in : List ℕ → ℕ → List ℕ
 word_in line zero = first_word line
 word_in line (suc n) = word_in (after_word line) n
+
+-- a piece between blanks that is a word
+abbrev pub is_word : List ℕ → Bool
+is_word piece = not (eqb (length piece) 0)
+
+abbrev pub words : List ℕ → List (List ℕ)
+words line = filter is_word (slice_split is_blank line)

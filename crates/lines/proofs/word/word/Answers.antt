@@ -1,17 +1,17 @@
-use Rattle.std.proofs.Common.{rules, tests, ◌∙◌}
-use Rattle.std.proofs.lemmas.Iterator.Consumers.{YieldsList-at, YieldsList-from_filter, nth_from_yields_List}
-use Rattle.std.proofs.lemmas.Iterator.Splits.{YieldsList-from_slice_split}
-use Rattle.lines.specs.Words.{is_blank}
-use Rattle.lines.proofs.Words.{is_word, taken, word-words, words}
+use Rattle.std.proofs.Common.{◌≡◌, ◌+◌, ◌-◌, sym, ap, ◌∙◌}
+use Rattle.lines.specs.Words.{word_in}
+use Rattle.lines.proofs.Words.{word-words, word_here, word_on}
 use Rattle.lines.proofs.word.word.Goals as goal
+
+pub loop-passed-preserved : goal.loop-passed-preserved
+loop-passed-preserved c =
+    ap (λ rest. word_in rest (c.args.number - (c.loop-passed._passed + 1))) c.after_word-rest.ensures
+    ∙ sym (word_on c.loop-passed.rest.now c.args.number c.loop-passed._passed c.loop-passed-test.true)
+    ∙ c.loop-passed.invariant
 
 pub returns : goal.returns
 returns c =
-    let line = c.args.line.now
-    in taken c.nth.result c.unwrap_or_default.result (words line) _ c.unwrap_or_default.ensures
-    (nth_from_yields_List c.nth.result c.nth.new.self _ c.nth.ensures.ran
-    (YieldsList-from_filter _ is_word
-    (YieldsList-at c.filter.ensures.source
-    (YieldsList-from_slice_split _ is_blank line c.split.ensures.rest c.split.ensures.done c.split.ensures.closure (λ x r q k. search (rules, tests))))
-    c.filter.ensures.closure (λ x r q k. search (rules, tests))))
-    ∙ word-words line c.args.number
+    let value : c.first_word.result.now ≡ word_in c.args.line.now c.args.number =
+    c.first_word.ensures ∙ sym (word_here c.loop-passed.rest.now c.args.number c.loop-passed._passed c.loop-passed-test.false)
+    ∙ c.loop-passed.invariant
+    in record { value = value; pieces = value ∙ sym (word-words c.args.line.now c.args.number) }
