@@ -1,4 +1,4 @@
-use Rattle.std.proofs.Common.{◌≡◌, ℕ, zero, suc, ◌+◌, Bool, true, false, eqb, List, [], ◌∷◌, ◌++◌, get_or, sym, refl, ap, ◌∙◌, one-add, arith}
+use Rattle.std.proofs.Common.{◌≡◌, ℕ, zero, suc, ◌+◌, Bool, true, false, cond, not, eqb, List, [], ◌∷◌, ◌++◌, take, drop, get_or, sym, refl, ap, ◌∙◌, one-add, arith}
 use Rattle.std.specs.List.{onto_first, prefix_len, slice_split}
 use Rattle.tables.specs.Texts.{behind_line, first_line, is_inside, line_in, lines_in, onto}
 
@@ -66,14 +66,29 @@ onto_lines b [] true = (false, refl)
 onto_lines b [] false = (false, refl)
 onto_lines b (line ∷ lines) t = (t, refl)
 
-lines_on : (t : Bool) (b : ℕ) (bs : List ℕ) → eqb b 10 ≡ t → Lines bs → Lines (b ∷ bs)
+lines_front : (t : Bool) (b : ℕ) (bs : List ℕ) → eqb b 10 ≡ t → Lines bs → Lines (b ∷ bs)
 unfolding lines_in
-lines_on true b bs e l = record { ended = l.ended; are = rw e (ap (λ ps. [] ∷ ps) l.are) }
-lines_on false b bs e l =
+lines_front true b bs e l = record { ended = l.ended; are = rw e (ap (λ ps. [] ∷ ps) l.are) }
+lines_front false b bs e l =
     let o = onto_lines b (lines_in bs) l.ended
     in record { ended = o.0; are = rw e (ap (onto_first b) l.are ∙ o.1) }
 
 pub lines : (text : List ℕ) → Lines text
 unfolding lines_in
 lines [] = record { ended = true; are = refl }
-lines (b ∷ bs) = lines_on (eqb b 10) b bs refl (lines bs)
+lines (b ∷ bs) = lines_front (eqb b 10) b bs refl (lines bs)
+
+-- a byte that ends the line, or goes in front of it
+one_on : (t : Bool) (b n : ℕ) (bs : List ℕ) → onto b (lines_in bs) ≡ (b ∷ take n bs) ∷ lines_in (drop (n + 1) bs)
+    → cond t ([] ∷ lines_in bs) (onto b (lines_in bs)) ≡ take (cond (not t) (1 + n) 0) (b ∷ bs) ∷ lines_in (drop (cond (not t) (1 + n) 0 + 1) (b ∷ bs))
+one_on true b n bs e = refl
+one_on false b n bs e =
+    let one : 1 + n ≡ suc n = one-add n
+    in let two : 1 + n + 1 ≡ suc (n + 1) = omega arith
+    in rw (two, one) e
+
+-- a text that is not empty has a first line, and the others stand behind it
+pub lines_on : (b : ℕ) (bs : List ℕ) → lines_in (b ∷ bs) ≡ first_line (b ∷ bs) ∷ lines_in (behind_line (b ∷ bs))
+unfolding lines_in
+lines_on b [] = one_on (eqb b 10) b 0 [] refl
+lines_on b (c ∷ cs) = one_on (eqb b 10) b (prefix_len is_inside (c ∷ cs)) (c ∷ cs) (ap (onto b) (lines_on c cs))

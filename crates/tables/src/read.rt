@@ -7,10 +7,13 @@ use crate::fault::{BadLine, LineFault};
 use lines::parse::parse_line;
 use rows::draft::Draft;
 
-// Adds the row of a line, if it writes one.
+// Adds the row of a line, if it writes one. Empty lines are many in some tables, so none is looked at for words.
 fn take_words(draft: &mut Draft, line: &[u8]) -> Result<(), LineFault>
     ensures { told (rows_of draft.new) result ≡ after_line (rows_of draft.old) (line_of line.now) }
 {
+    if line.is_empty() {
+        return Ok(());
+    }
     if let Some(row) = parse_line(line)? {
         draft.add(row)?;
     }
