@@ -1,7 +1,12 @@
 -- Texts put into a buffer, one behind the other.
 use Rattle.std.proofs.Common.{◌≡◌, ℕ, ◌+◌, ◌≤◌, List, ◌++◌, length, take, drop, sym, ap, ◌∙◌, arith}
 use Rattle.listing.specs.Text.{written}
-use Rattle.std.proofs.lemmas.List.{take_at, drop_at, drop-drop, append_assoc, length-append, length-take-le}
+use Rattle.std.proofs.Math.Seq.{take-length}
+use Rattle.std.proofs.lemmas.List.{take_at, drop_at, drop_all, drop-drop, append_assoc, append-nil, length-append, length-take-le}
+
+-- a text put at the end
+pub written_end : (out t : List ℕ) → written out (length out) t ≡ out ++ t
+written_end out t = rw (take-length out, drop_all (length out + length t) out (omega arith), append-nil t)
 
 -- what stands before the place behind a text that was put, and what stands from there on
 pub take-written : (out : List ℕ) (at : ℕ) (t : List ℕ) (behind : ℕ) → behind ≡ at + length t → at ≤ length out → take behind (written out at t) ≡ take at out ++ t
@@ -25,3 +30,9 @@ written-written out at s behind t e h =
 pub written_on : (s t out mid end : List ℕ) (at behind : ℕ) → at ≤ length out → mid ≡ written out at s → behind ≡ at + length s → end ≡ written mid behind t → end ≡ written out at (s ++ t)
 written_on s t out mid end at behind h first e second =
     second ∙ ap (λ b. written b behind t) first ∙ written-written out at s behind t e h
+
+-- two puts in a row, each at the end of what stands then
+pub put_on : (s t out mid end : List ℕ) → mid ≡ written out (length out) s → end ≡ written mid (length mid) t → end ≡ written out (length out) (s ++ t)
+put_on s t out mid end first second =
+    let behind : length mid ≡ length out + length s = ap length (first ∙ written_end out s) ∙ length-append out s
+    in written_on s t out mid end (length out) (length mid) (omega arith) first behind second

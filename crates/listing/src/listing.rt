@@ -1,5 +1,6 @@
-ghost use Rattle.std.specs.Prelude.{◌≡◌, ℕ, ◌≤◌, List, IfOk};
+ghost use Rattle.std.specs.Prelude.{◌≡◌, ℕ, ◌≤◌, List, [], length, IfOk};
 ghost use Rattle.listing.specs.Listings.{answer_of, buffer_after, fault_text, rating_text};
+ghost use Rattle.listing.specs.Text.{written};
 
 use crate::fault::ListingFault;
 use crate::page::{LONGEST, Page};
@@ -11,9 +12,10 @@ pub(crate) trait Listed {
     // its lines
     ghost text: { Self → List ℕ };
 
-    // The page with its lines.
-    fn page(&self) -> Page
-        ensures { result.bytes.items ≡ text self.now };
+    // Puts its lines on an empty page.
+    fn write(&self, page: &mut Page)
+        requires { page.old.bytes.items ≡ [] }
+        ensures { page.new.bytes.items ≡ text self.now };
 }
 
 // Writes what a rating found: the line of every row and their count, or what is late. Answers the length written; a
@@ -44,8 +46,17 @@ fn list<L: Listed>(listed: &L, out: &mut [u8]) -> Result<usize, ListingFault>
     if out.len() < LONGEST {
         return Err(ListingFault::ShortBuffer);
     }
-    let page = listed.page();
+    let mut page = Page::new();
+    listed.write(&mut page);
     let text = page.bytes.as_slice();
-    out[..text.len()].copy_from_slice(text);
+    put_front(out, text);
     Ok(text.len())
+}
+
+// Puts a text at the start of a buffer; what stands behind it stays.
+fn put_front(out: &mut [u8], text: &[u8])
+    requires { length text.now ≤ length out.old }
+    ensures { out.new ≡ written out.old 0 text.now }
+{
+    out[..text.len()].copy_from_slice(text);
 }

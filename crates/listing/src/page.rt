@@ -1,7 +1,7 @@
 ghost use Rattle.std.specs.Prelude.{◌≡◌, ◌+◌, ◌<◌, ◌≤◌, [], ◌++◌, length, IfSome};
 ghost use Rattle.listing.specs.Lines.{figure, line_of};
 ghost use Rattle.listing.specs.Listings.{bound_line, count_text};
-ghost use Rattle.listing.specs.Text.{two_digits};
+ghost use Rattle.listing.specs.Text.{two_digits, written};
 ghost use Rattle.rows.specs.Refusals.{record_text};
 ghost use Rattle.rows.specs.Rows.{Valid, label_bytes};
 
@@ -30,7 +30,8 @@ impl Page {
     // Puts a text at the end.
     pub(crate) fn put(&mut self, text: &[u8])
         requires { length self.old.bytes.items + length text.now ≤ 1292 }
-        ensures { self.new.bytes.items ≡ self.old.bytes.items ++ text.now }
+        ensures text { self.new.bytes.items ≡ self.old.bytes.items ++ text.now }
+        ensures at { self.new.bytes.items ≡ written self.old.bytes.items (length self.old.bytes.items) text.now }
     {
         self.bytes.try_extend_from_slice(text).unwrap();
     }
@@ -39,7 +40,8 @@ impl Page {
     // Stays: there is no heap here, and no contract says that `write!` to fixed memory succeeds where there is room.
     pub(crate) fn put_two_digits(&mut self, n: u8)
         requires { (n < 100) × (length self.old.bytes.items + 2 ≤ 1292) }
-        ensures { self.new.bytes.items ≡ self.old.bytes.items ++ two_digits n }
+        ensures text { self.new.bytes.items ≡ self.old.bytes.items ++ two_digits n }
+        ensures at { self.new.bytes.items ≡ written self.old.bytes.items (length self.old.bytes.items) (two_digits n) }
     {
         self.put(&[b'0' + n / 10, b'0' + n % 10]);
     }
@@ -47,7 +49,8 @@ impl Page {
     // Puts a number in decimal with no leading zeros.
     pub(crate) fn put_decimal<I: Integer>(&mut self, n: I)
         requires { length self.old.bytes.items + length (I.text n) ≤ 1292 }
-        ensures { self.new.bytes.items ≡ self.old.bytes.items ++ I.text n }
+        ensures text { self.new.bytes.items ≡ self.old.bytes.items ++ I.text n }
+        ensures at { self.new.bytes.items ≡ written self.old.bytes.items (length self.old.bytes.items) (I.text n) }
     {
         let mut digits = Buffer::new();
         self.put(digits.format(n).as_bytes());
@@ -56,7 +59,8 @@ impl Page {
     // Puts a label's four bytes.
     fn put_label(&mut self, label: Label)
         requires { length self.old.bytes.items + 4 ≤ 1292 }
-        ensures { self.new.bytes.items ≡ self.old.bytes.items ++ label_bytes label }
+        ensures text { self.new.bytes.items ≡ self.old.bytes.items ++ label_bytes label }
+        ensures at { self.new.bytes.items ≡ written self.old.bytes.items (length self.old.bytes.items) (label_bytes label) }
     {
         self.put(&<[u8; 4]>::from(label));
     }
@@ -64,7 +68,8 @@ impl Page {
     // Puts a space and a number in decimal.
     fn put_figure(&mut self, n: u32)
         requires { length self.old.bytes.items + length (figure n) ≤ 1292 }
-        ensures { self.new.bytes.items ≡ self.old.bytes.items ++ figure n }
+        ensures text { self.new.bytes.items ≡ self.old.bytes.items ++ figure n }
+        ensures at { self.new.bytes.items ≡ written self.old.bytes.items (length self.old.bytes.items) (figure n) }
     {
         self.put(b" ");
         self.put_decimal(n);
@@ -75,7 +80,8 @@ impl Page {
         requires number { number < 100 }
         requires both { bounds.0 + bounds.1 ≤ 1000000 }
         requires room { length self.old.bytes.items + length (line_of number row.now bounds) ≤ 1292 }
-        ensures { self.new.bytes.items ≡ self.old.bytes.items ++ line_of number row.now bounds }
+        ensures text { self.new.bytes.items ≡ self.old.bytes.items ++ line_of number row.now bounds }
+        ensures at { self.new.bytes.items ≡ written self.old.bytes.items (length self.old.bytes.items) (line_of number row.now bounds) }
     {
         let (memory, processor) = bounds;
         self.put_two_digits(number);

@@ -8,13 +8,11 @@ impl Listed for LoadFault {
     ghost text = { λ fault. fault_text fault };
 
     #[tactic(auto, using(crate::proofs::Decimals::length_byte), unfolding(crate::specs::Listings::fault_text))]
-    fn page(&self) -> Page {
+    fn write(&self, page: &mut Page) {
         let refusal = Refusal::from(*self);
-        let mut page = Page::new();
         page.put(b"turned down ");
         page.put_decimal(refusal.number);
         page.put_record(refusal.record);
         page.put(b"\n");
-        page
     }
 }

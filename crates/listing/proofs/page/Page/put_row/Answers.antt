@@ -14,6 +14,6 @@ returns-in-Some-clause-most c =
     let within = rw c.in-Some.is at c.requires.within
     in omega (
       arith,
-      longer c.args.self.now.bytes.items (line_of c.args.number c.args.row.now c.in-Some.bounds) _ c.put_line.ensures,
+      longer c.args.self.now.bytes.items (line_of c.args.number c.args.row.now c.in-Some.bounds) _ c.put_line.ensures.text,
       length_row c.args.number c.args.row.now c.in-Some.bounds c.requires.valid within,
     )

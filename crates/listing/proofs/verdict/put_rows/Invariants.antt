@@ -1,5 +1,5 @@
 use Rattle.std.proofs.Common.{◌≡◌, ◌*◌, ◌≤◌, length}
-use Rattle.listing.proofs.verdict.lines.Given as goal
+use Rattle.listing.proofs.verdict.put_rows.Given as goal
 use Rattle.listing.specs.Listings.{lines_of}
 
 abbrev pub invariant-loop-i : goal.invariant-loop-i
