@@ -1,20 +1,30 @@
-use Rattle.std.specs.Prelude.{◌≡◌, ℕ, ◌-◌, Bool, true, cond, is_some, Some, None, Ok, Err, Option, Result, ◌==◌}
+use Rattle.std.specs.Prelude.{◌≡◌, ℕ, ◌-◌, Bool, true, cond, is_some, Some, None, Ok, Err, Option, Result, ◌==◌, ◌≢◌}
 use Rattle.std.proofs.Common.{lit≤, arith}
 use Rattle.std.proofs.lemmas.Bool.{cond_both, eqb-true}
 use Rattle.feeds.specs.Meanings.{Offered, View}
-use Rattle.feeds.specs.PerMarks.{OthersKept, at_mark}
-use Rattle.feeds.specs.declared.clockwork.Beat.{Beat}
+use Rattle.feeds.specs.PerMarks.{at_mark}
 use Rattle.feeds.specs.declared.clockwork.Clockwork.{Clockwork}
+use Rattle.feeds.specs.declared.clockwork.Rest.{Rest}
 use Rattle.feeds.specs.declared.fault.SettingFault.{SettingFault}
 use Rattle.feeds.specs.declared.terms.Terms.{Terms}
 
+-- the arrivals of one mark: they rest until the next of them, and then come one at each interval, all of the same cost
+pub record Beat : Type 0 where
+  pub rest : ℕ
+  pub terms : Terms
+
+-- these terms, if there are any, at this rest
+abbrev pub beat_at : Rest → Option Terms → Option Beat
+beat_at r None = None
+beat_at r (Some t) = Some (record { rest = r.steps; terms = t })
+
 -- what is at a mark: nothing, if it was never set
 abbrev pub entry_of : Clockwork → ℕ → Option Beat
-entry_of x = at_mark None x.entries
+entry_of x k = beat_at (at_mark (record { steps = 0 }) x.rests k) (at_mark None x.terms k)
 
--- the same arrivals one step later
-abbrev pub beat_later : Beat → Beat
-beat_later b = record { rest = b.rest - 1; terms = b.terms }
+-- the same rest one step later
+abbrev pub rest_later : Rest → Rest
+rest_later r = record { steps = r.steps - 1 }
 
 -- the rest of a mark; one that was never set does not rest
 abbrev pub rest_of : Option Beat → ℕ
@@ -43,7 +53,7 @@ Rests e r f = Has f (is_some e) r (terms_of e).distance.steps (terms_of e).ceili
 
 -- every mark but k has the entry that it had
 abbrev pub OthersStay : Clockwork → ℕ → Clockwork → Type 0
-OthersStay x k y = OthersKept None x.entries k y.entries
+OthersStay x k y = (j : ℕ) → (j ≢ k) → entry_of y j ≡ entry_of x j
 
 -- Setting mark k shows x before and y after: an accepted setting stands at its mark, which rests for the offset, and
 -- every other mark keeps its entry; a refused one alters nothing.

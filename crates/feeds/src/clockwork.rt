@@ -4,15 +4,16 @@ mod rules;
 use crate::per_mark::PerMark;
 use crate::terms::Terms;
 
-// The arrivals of one mark: they rest until the next of them, and then come one at each interval, all of the same cost.
+// The steps until a mark's next arrival may come.
 #[derive(Clone, Copy)]
-struct Beat {
-    rest: u32,
-    terms: Terms,
+struct Rest {
+    steps: u32,
 }
 
-// A clockwork: a feed of regular arrivals at each mark that is set.
+// A clockwork: a feed of regular arrivals at each mark that is set, one at each interval, all of the same cost. The rests
+// stand in a table of their own, so that an advance goes over numbers alone; that of a mark that is not set says nothing.
 #[derive(Drop)]
 pub struct Clockwork {
-    entries: PerMark<Option<Beat>>,
+    terms: PerMark<Option<Terms>>,
+    rests: PerMark<Rest>,
 }

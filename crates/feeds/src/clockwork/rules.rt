@@ -1,9 +1,9 @@
 ghost use Rattle.std.specs.Prelude.{◌≡◌, ℕ, false, None};
-ghost use Rattle.feeds.specs.Clocks.{ClockAdvanced, ClockSet, ClockTaken, Has, beat_later, clock_view, entry_of, terms_of};
+ghost use Rattle.feeds.specs.Clocks.{ClockAdvanced, ClockSet, ClockTaken, Has, clock_view, entry_of, rest_later, terms_of};
 ghost use Rattle.feeds.specs.Meanings.{Advanced, Taken};
 ghost use Rattle.feeds.specs.Settings.{Figures, timing_checked};
 
-use super::{Beat, Clockwork};
+use super::{Clockwork, Rest};
 use crate::fault::SettingFault;
 use crate::feed::Feed;
 use crate::mark::Mark;
@@ -12,11 +12,11 @@ use crate::pledge::Pledge;
 use crate::terms::{Ceilings, Distance, Terms};
 use crate::timed::Timed;
 
-impl Timed for Beat {
-    ghost later = { beat_later };
+impl Timed for Rest {
+    ghost later = { rest_later };
 
     fn pass(&mut self) {
-        self.rest = self.rest.saturating_sub(1);
+        self.steps = self.steps.saturating_sub(1);
     }
 }
 
@@ -26,7 +26,8 @@ impl Clockwork {
         ensures { (k : ℕ) → Has (entry_of result k) false 0 1000000 0 1 }
     {
         Clockwork {
-            entries: PerMark::new(None),
+            terms: PerMark::new(None),
+            rests: PerMark::new(Rest { steps: 0 }),
         }
     }
 
@@ -47,13 +48,8 @@ impl Clockwork {
             return Err(SettingFault::Offset);
         }
         let terms = Terms::new(interval, memory, processor)?;
-        self.entries.set(
-            k,
-            Some(Beat {
-                rest: offset,
-                terms,
-            }),
-        );
+        self.terms.set(k, Some(terms));
+        self.rests.set(k, Rest { steps: offset });
         Ok(())
     }
 
@@ -61,8 +57,8 @@ impl Clockwork {
     fn terms(&self, k: Mark) -> Terms
         ensures { Figures result (terms_of (entry_of self.now k.value)).distance.steps (terms_of (entry_of self.now k.value)).ceilings.memory (terms_of (entry_of self.now k.value)).ceilings.processor }
     {
-        match self.entries.get(k) {
-            Some(beat) => beat.terms,
+        match self.terms.get(k) {
+            Some(terms) => terms,
             None => Terms {
                 distance: Distance::GREATEST,
                 ceilings: Ceilings::LOWEST,
@@ -97,12 +93,11 @@ impl Pledge for Clockwork {
 
 impl Feed for Clockwork {
     fn look(&self, k: Mark) -> Option<(u32, u32)> {
-        let Beat { rest, terms } = self.entries.get(k)?;
-        if rest == 0 {
-            Some((terms.ceilings.memory(), terms.ceilings.processor()))
-        } else {
-            None
+        if self.rests.get(k).steps > 0 {
+            return None;
         }
+        let terms = self.terms.get(k)?;
+        Some((terms.ceilings.memory(), terms.ceilings.processor()))
     }
 
     fn take(&mut self, k: Mark) -> Option<(u32, u32)>
@@ -111,14 +106,8 @@ impl Feed for Clockwork {
         ensures entries { ClockTaken self.old k.value self.new }
     {
         let offer = self.look(k)?;
-        let terms = self.terms(k);
-        self.entries.set(
-            k,
-            Some(Beat {
-                rest: terms.distance.steps(),
-                terms,
-            }),
-        );
+        let steps = self.distance(k);
+        self.rests.set(k, Rest { steps });
         Some(offer)
     }
 
@@ -126,6 +115,6 @@ impl Feed for Clockwork {
         ensures advanced { Advanced (clock_view self.old) (clock_view self.new) }
         ensures entries { ClockAdvanced self.old self.new }
     {
-        self.entries.advance();
+        self.rests.advance();
     }
 }
