@@ -4,6 +4,7 @@ pub mod Choices
 pub mod Entering
 pub mod Going
 pub mod Guarantees
+pub mod Marks
 pub mod Parts
 pub mod Rankings
 pub mod Starts
