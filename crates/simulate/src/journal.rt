@@ -51,7 +51,11 @@ fn note_rows<A, B, P>(
     ensures rows { (k : ℕ) → k < length (rows_in run.now) → tally_at tallies.new k ≡ noted k (slice_index_or free.now k false) answer.now (place run.now k) (tally_at tallies.old k) }
     ensures others { (k : ℕ) → length (rows_in run.now) ≤ k → tally_at tallies.new k ≡ tally_at tallies.old k }
 {
+    let count = run.rating().rows().len();
     for (k, tally) in tallies.iter_mut().enumerate() {
+        if k >= count {
+            break;
+        }
         *tally = noted_row(*tally, k as u8, free[k], answer, run);
     }
 }

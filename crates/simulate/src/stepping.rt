@@ -59,7 +59,11 @@ fn free_places<A, B, P>(run: &Run<A, B, P>) -> [bool; 32]
     ensures { (k : ℕ) → k < length (rows_in run.now) → slice_index_or result k false ≡ is_free (place run.now k) }
 {
     let mut free = [false; 32];
+    let count = run.rating().rows().len();
     for (k, place) in free.iter_mut().enumerate() {
+        if k >= count {
+            break;
+        }
         *place = matches!(run.place(k as u8), Some(Slot::Empty));
     }
     free
