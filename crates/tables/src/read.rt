@@ -7,24 +7,28 @@ use crate::fault::{BadLine, LineFault};
 use lines::parse::parse_line;
 use rows::draft::Draft;
 
-// Adds the row of a line, if it writes one. Empty lines are many in some tables, so none is looked at for words.
+// Adds the row of a line, if it writes one.
 fn take_words(draft: &mut Draft, line: &[u8]) -> Result<(), LineFault>
     ensures { told (rows_of draft.new) result ≡ after_line (rows_of draft.old) (line_of line.now) }
 {
-    if line.is_empty() {
-        return Ok(());
-    }
     if let Some(row) = parse_line(line)? {
         draft.add(row)?;
     }
     Ok(())
 }
 
-// The same, and tells the line's number with its fault.
+// The same, and tells the line's number with its fault. Empty lines are many in some tables, so none is looked at for
+// words. A `map_err` would move each line's answer through memory, and take more than twice the time of a short line.
 fn take_line(draft: &mut Draft, number: usize, line: &[u8]) -> Result<(), BadLine>
     ensures { told (rows_of draft.new) result ≡ in_line number (after_line (rows_of draft.old) (line_of line.now)) }
 {
-    take_words(draft, line).map_err(|fault| BadLine {
+    if line.is_empty() {
+        return Ok(());
+    }
+    let Err(fault) = take_words(draft, line) else {
+        return Ok(());
+    };
+    Err(BadLine {
         line: number,
         fault,
     })
