@@ -11,7 +11,8 @@ use Rattle.tables.specs.Tables.{after_line, in_line, table_from, table_of}
 use Rattle.tables.specs.Texts.{lines_in}
 use Rattle.tables.specs.declared.fault.BadLine.{BadLine}
 
-empty_line : line_of [] ≡ Ok None
+-- an empty line has no word
+pub empty_line : line_of [] ≡ Ok None
 unfolding word_in
 empty_line = refl
 

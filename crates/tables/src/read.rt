@@ -18,7 +18,7 @@ fn take_words(draft: &mut Draft, line: &[u8]) -> Result<(), LineFault>
 }
 
 // The same, and tells the line's number with its fault. Empty lines are many in some tables, so none is looked at for
-// words. A `map_err` would move each line's answer through memory, and take more than twice the time of a short line.
+// words. A `map_err` would move each line's answer through memory, which more than doubles the time of a short line.
 fn take_line(draft: &mut Draft, number: usize, line: &[u8]) -> Result<(), BadLine>
     ensures { told (rows_of draft.new) result ≡ in_line number (after_line (rows_of draft.old) (line_of line.now)) }
 {
