@@ -18,12 +18,12 @@ pub(crate) fn number(word: &[u8]) -> Result<u32, Reason>
     if word.is_empty() {
         return Err(Reason::Missing);
     }
-    let Ok(digits) = str::from_utf8(word) else {
-        return Err(Reason::NotANumber);
-    };
     if !all_digits(word) {
         return Err(Reason::NotANumber);
     }
+    let Ok(digits) = str::from_utf8(word) else {
+        return Err(Reason::NotANumber);
+    };
     digits.parse().map_err(|_| Reason::TooLarge)
 }
 
